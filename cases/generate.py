@@ -34,6 +34,14 @@ def made(seed, rule=None, order=None):
     return words, ordered(given, order) if order else given
 
 
+def numbered(at):
+    """The document of a number, of which one in three is drawn and the others are directed at one rule each, with the words by which this
+    program writes it. A half are of version 2, and a half of these in the order of arrival."""
+    rules = list(RULES)
+    turn, place = divmod(at, len(rules))
+    return made(at, rules[place] if at % 3 else None, SHARES[turn // 2 % len(SHARES)] if turn % 2 else None)
+
+
 def identifier(chance, name):
     """The text of an identifier, in one of its forms."""
     text = f"{name:032x}"

@@ -1,5 +1,5 @@
-"""A repository beside a toolchain that proves nothing, for the scripts that test ./exec_run, ./exec_upgrade, ./build, ./gate and
-release/.
+"""A repository beside a toolchain that proves nothing, for the scripts that test ./exec_run, ./exec_upgrade, ./exec_serve, ./build,
+./gate and release/.
 
 It has the crates' list with a source of one word in each crate. What its toolchain links tells its words and the version of the
 sources, and ends with the status 3; to a document it answers what the program answers to an empty one."""
@@ -9,18 +9,26 @@ import shutil
 import subprocess
 
 TOP = pathlib.Path(__file__).resolve().parent.parent
-# A list of few crates, of which one is of neither program, and one of exec_run alone.
-FEW = "exec_msg: itoa\nexec_io: exec_msg\nexec_tests: exec_io\nexec_round: exec_msg\nexec_run: exec_round exec_io exec_msg\nexec_upgrade: exec_io exec_msg\n"
-PROGRAMS = "exec_run", "exec_upgrade"
+# A list of few crates, of which one is of no program, and one of those alone that run documents.
+FEW = (
+    "exec_msg: itoa\nexec_io: exec_msg\nexec_tests: exec_io\nexec_round: exec_msg\nexec_run: exec_round exec_io exec_msg\n"
+    "exec_upgrade: exec_io exec_msg\nexec_serve: exec_round exec_io exec_msg\n"
+)
+PROGRAMS = "exec_run", "exec_upgrade", "exec_serve"
 COPIED = *PROGRAMS, "build", "gate", "VERSION", "THIRD_PARTY.md", "crates.txt", "HANDLES", "release/program.sh", "release/check"
 # What stands for rt: it notes the crate that it is asked for, and refuses one whose libraries aren't there.
 RT = """#!/bin/sh
 link() {
-  case $1 in exec_run) answer='end 0' ;; exec_upgrade) answer='{"order":"kind","version":2}' ;; *) return ;; esac
+  case $1 in
+  exec_run) answer='end 0' ;;
+  exec_upgrade) answer='{"order":"kind","version":2}' ;;
+  exec_serve) answer=$(printf '\\006end 0') ;;
+  *) return ;;
+  esac
   cat >out/$1 <<END
 #!/bin/sh
 ${BEGIN-}
-case \\$(cat) in *version*) echo '$answer' && exit ;; esac
+case \\$(tr -d '\\\\000') in *version*) echo '$answer' && exit ;; esac
 echo $(cat src/main.rt) "\\$@"
 exit 3
 END
@@ -30,7 +38,7 @@ if [ "$1" = version ]; then
   echo "${KIT:-stand-in 1}"
 elif [ "$1" = ci ]; then
   rm -rf crates/*/out
-  for name in exec_run exec_upgrade; do
+  for name in exec_run exec_upgrade exec_serve; do
     (cd crates/$name && mkdir -p out && { [ -e "$NOTES/refused" ] || link $name; }) || exit 1
   done
   [ ! -e "$NOTES/refused" ] || { echo '0 passed, 1 failed' && exit 1; }
@@ -120,6 +128,9 @@ class Repository:
 
     def upgrade(self, **around):
         return self.run(file="./exec_upgrade", **around)
+
+    def serve(self, **around):
+        return self.run("1", "2", file="./exec_serve", **around)
 
     def copy(self, room, *left_out):
         """Another repository with the same files, which are newer there, but for some."""

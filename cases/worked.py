@@ -21,6 +21,6 @@ def wanted(document):
 
 def named():
     """The documents with their names."""
-    for folder in ("cases", "examples"):
-        for document in sorted((TOP / folder).rglob("*.json")):
+    for pattern in ("cases/*/*.json", "examples/*.json"):
+        for document in sorted(TOP.glob(pattern)):
             yield document.relative_to(TOP).as_posix(), document

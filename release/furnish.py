@@ -7,7 +7,7 @@ import shutil
 import sys
 
 TOP = pathlib.Path(__file__).resolve().parent.parent
-PROGRAMS = "exec_run", "exec_upgrade"
+PROGRAMS = "exec_run", "exec_upgrade", "exec_serve"
 # What else the package reads, by its name in the repository and in the folder.
 FILES = {"VERSION": "VERSION", "release/about": "about", "release/NOTICES.md": "NOTICES.md", "docs/HEADLINE.md": "docs/HEADLINE.md"}
 

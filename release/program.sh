@@ -1,13 +1,21 @@
-# release/program.sh: what ./exec_run, ./exec_upgrade, ./build and ./gate ask of the programs and of their sources. They read this
-# file at the top of the repository; it is POSIX sh.
-programs='exec_run exec_upgrade'
+# release/program.sh: what ./exec_run, ./exec_upgrade, ./exec_serve, ./build and ./gate ask of the programs and of their sources. They
+# read this file at the top of the repository; it is POSIX sh.
+programs='exec_run exec_upgrade exec_serve'
 
-# Has all that follows ask of one of these programs. With the words of its trial it answers an empty document as given here.
+# Has all that follows ask of one of these programs. With the words of its trial it answers an empty document as given here, but for
+# bytes of 0. The question is a format of printf.
 ask_of() {
   name=$1 out=crates/$1/out packed=release/$1.gz
+  trial='1 1' question='{"version":1}\n'
+  refusal='the document is refused (./virraupez explain tells why)'
+  instead='`./virraupez run --reference DOCUMENT` runs the executor written apart in Python'
   case $1 in
-  exec_run) trial='1 1' answer='end 0' instead='`./virraupez run --reference DOCUMENT` runs the executor written apart in Python' ;;
+  exec_run) answer='end 0' ;;
   exec_upgrade) trial='' answer='{"order":"kind","version":2}' instead='`./virraupez upgrade --reference DOCUMENT` is written apart in Python' ;;
+  exec_serve)
+    question='\000\000\000\000\000\000\000\015{"version":1}' answer=$(printf '\006end 0')
+    refusal='memory for its words is refused'
+    ;;
   esac
 }
 
@@ -192,7 +200,7 @@ is_shipped() {
 
 # Whether a file answers an empty document as the program must.
 is_answering() {
-  [ "$(cd -- "${1%/*}" && echo '{"version":1}' | "./${1##*/}" $trial)" = "$answer" ]
+  [ "$(cd -- "${1%/*}" && printf "$question" | "./${1##*/}" $trial | tr -d '\000')" = "$answer" ]
 }
 
 # Unpacks the program of release/ into a folder. It is run after it was summed, and has its name after it is on the disk.
@@ -247,6 +255,19 @@ choose() {
 
 # ---- what starts a program
 
+# Whether a word is a number from 1 to a greatest one, as the programs read it: one to four decimal digits.
+is_number() {
+  case $1 in
+  '' | *[!0123456789]* | ?????*) return 1 ;;
+  esac
+  [ "$1" -ge 1 ] && [ "$1" -le "$2" ]
+}
+
+# Whether words are a number of workers and a quantum.
+are_settings() {
+  [ $# -eq 2 ] && is_number "$1" 64 && is_number "$2" 1024
+}
+
 # Becomes the program. The words --help and --version, and wrong words, are answered here, the latter as the program answers them,
 # so that no program is needed for that. What calls this says in $usage what the words are and in $wrote what the program writes,
 # has a function `describe` that tells more, and one `are_right` that judges the words.
@@ -278,7 +299,7 @@ help() {
   describe
   cat <<END
 
-The status is 0 after $wrote, 1 if the document is refused (./virraupez explain tells why), 2 at wrong words,
+The status is 0 after $wrote, 1 if $refusal, 2 at wrong words,
 3 if standard output failed, 4 if standard input did, and 70 if there is no program to run. docs/program.md says more.
 END
 }

@@ -33,7 +33,7 @@ class Code:
                 self.add_model(at, self.items[model[1]])
 
     def add(self, at, name):
-        """An item with what is said of it, to its last bracket or its semicolon."""
+        """An item with what is said of it, to its last bracket or its semicolon. What only derives or prints (`#[..]`) is left out."""
         first = at
         while self.lines[first - 1].lstrip().startswith(("//", "#[")):
             first -= 1
@@ -42,7 +42,8 @@ class Code:
         depth = 0
         for number in range(at, len(self.lines)):
             bare = re.sub(r"//.*", "", self.lines[number])
-            item.body.append((number + 1, self.lines[number]))
+            if not bare.lstrip().startswith("#["):
+                item.body.append((number + 1, self.lines[number]))
             depth += sum(bare.count(it) for it in "({[") - sum(bare.count(it) for it in ")}]")
             if depth == 0 and (";" in bare or "}" in bare):
                 return
@@ -54,7 +55,7 @@ class Code:
         first = next(number for number in range(at, ends) if lines[number].lstrip().startswith("ghost Value"))
         last = next(number for number in range(first, ends) if lines[number].endswith("};"))
         renamed = [number for number in range(at, ends) if "ghost use" in lines[number] and " as " in lines[number]]
-        head = re.match(r"[^{(;]*", item.body[0][1])[0].rstrip()
+        head = re.match(r"(?:pub(?:\(\w+\))? )?[^{(;]*", item.body[0][1])[0].rstrip()
         item.body = [(item.body[0][0], f"{head} {{ .. }}"), *((number + 1, lines[number]) for number in [at, *renamed, *range(first, last + 1)])]
         value = "\n".join(lines[first : last + 1]).partition("{")[2].rpartition("}")[0]
         uses = Uses(self.tree, self.path, [*(line for line in lines if line.startswith("ghost use")), *lines[at:ends]])

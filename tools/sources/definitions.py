@@ -1,4 +1,5 @@
 """Files of definitions (.antt): what each defines, and what its words mean."""
+import itertools
 import re
 
 from .words import names_in, sides, tokens_of
@@ -86,7 +87,7 @@ class Definitions(Uses):
     def __init__(self, tree, path):
         self.lines = path.read_text().split("\n")
         super().__init__(tree, path, self.lines)
-        self.head = self.lines[0][3:] if self.lines[0].startswith("-- ") else ""
+        self.head = " ".join(line[3:] for line in itertools.takewhile(lambda line: line.startswith("-- "), self.lines))
         self.read()
         self.find_pieces()
         self.right = {token for item in self.items.values() for part in equations(item) for token, _, _ in sides(tokens_of(part))[1]}

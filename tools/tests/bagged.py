@@ -71,7 +71,7 @@ HEADER = (("int32", 12), ("uint32", 5), ("string", "base"))
 
 
 def drive(folder):
-    """The bag of docs/feed.md: what the navigation of the modelling page is fed, as a robot would record it."""
+    """The bag of "feed" in docs/tools.md: what the navigation of the modelling page is fed, as a robot would record it."""
     folder.mkdir()
     begun, messages = 1700000000 * SECOND, []
     for at in range(0, 250, 10):
@@ -265,13 +265,13 @@ def of_documents(folder):
 
 
 def of_page(program):
-    """The commands of docs/feed.md, with a bag as the page has it."""
+    """The commands of "feed" in docs/tools.md, with a bag as the page has it."""
     with sandbox.with_program(program) as top:
         drive(top / "drive")
-        for block in documented.blocks(tool.TOP / "docs/feed.md", "text"):
+        for block in documented.blocks(documented.Section(documented.TOOLS, "feed"), "text"):
             for part in re.split(r"^\$ ", block, flags=re.M)[1:]:
                 command, _, output = part.partition("\n")
                 ran = subprocess.run(["bash", "-c", command], stdout=subprocess.PIPE, stderr=subprocess.STDOUT, cwd=top, timeout=tool.SECONDS)
-                yield f"feed.md: {command}", ran.stdout.decode(), output
+                yield f"tools.md: {command}", ran.stdout.decode(), output
         told = searched.started(top, "feed", "drive/drive_1.db3", "--topic", "/estop:stop", "--tick", "1s")
         yield "a file of a bag", told, (0, '[{"topic":"stop","value":1,"at":3}]\n')

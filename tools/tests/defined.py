@@ -55,7 +55,7 @@ CHANGES = (
     ("then x ∷ y ∷ ys else y ∷ inserted_by rank x ys", "then y ∷ inserted_by rank x ys else x ∷ y ∷ ys", "two_timers"),
     ("pend order.Arrival server id world = goal_arrived server id world", "pend order.Arrival server id world = world", "arrival/of_a_poll_after_a_message"),
     ("if is_refused decisions then code.Rejected else code_by", "code_by", "run/cancel_up_to_a_stamp_that_is_rejected"),
-    ("line.Pending number (suc more)", "line.Pending number more", "service"),
+    ("line.Pending number (suc more)", "line.Pending number more", "examples/service"),
     ("nat_le (reach_of instruction) (length rest)", "nat_le (reach_of instruction + 1) (length rest)", "scripts/a_skip_to_the_end"),
     ("nat_le (length text) NAME_LENGTH", "nat_le (length text + 1) NAME_LENGTH", "names/of_64_characters"),
     ("option_map_or (nat_le 1) (read id) false", "option_map_or (nat_le 0) (read id) false", "ids/a_goal_of_zeros"),

@@ -3,18 +3,33 @@ import contextlib
 import io
 import re
 import shlex
+import subprocess
 
 import virraupez
+from virraupez import commands as commands_of
 from virraupez import report, transcript
 
 from . import cooked, tool
 
 # The pages whose blocks are tried; links are followed in all.
 PAGES = sorted((tool.TOP / "docs").glob("*.md"))
+TOOLS = tool.TOP / "docs/tools.md"
+LINKED = [*PAGES, *(page for folder in (".", "bench", "examples", "release") for page in sorted((tool.TOP / folder).glob("*.md")))]
+
+
+class Section:
+    """A section of a page, from its heading to the next one of two marks, which is read as a page of its own."""
+
+    def __init__(self, page, heading):
+        self.page, self.heading, self.name = page, heading, f"{page.name}#{heading}"
+
+    def read_text(self):
+        return re.search(rf"^## {self.heading}\n(.*?)(?=^## |\Z)", self.page.read_text(), re.S | re.M)[1]
+
+
 # Those whose commands read files of the repository and write none, and those that are run one after the other in a folder of their own.
-READING = ("differ.md", "explain.md", "holds.md", "write.md")
-WALKED = ("tour.md", "modelling.md", "check.md", "command.md", "search.md")
-LINKED = [*PAGES, *(page for folder in (".", "examples", "release") for page in sorted((tool.TOP / folder).glob("*.md")))]
+READING = (Section(TOOLS, "diff"), *(tool.TOP / "docs" / name for name in ("explain.md", "holds.md", "write.md")))
+WALKED = (*(tool.TOP / "docs" / name for name in ("tour.md", "modelling.md", "check.md", "search.md")), Section(TOOLS, "run"))
 
 
 def blocks(page, language):
@@ -35,46 +50,50 @@ def scripts(page):
 
 
 def answers(_program):
-    for page in PAGES:
+    for page in READING:
         for command, output in commands(page):
-            words = shlex.split(command)
-            if page.name in READING and words[0] == "./virraupez":
-                yield f"{page.name}: {command}", tool.run(*words[1:])[1], output
+            if command.startswith("./virraupez "):
+                yield f"{page.name}: {command}", printed(command), output
+    yield "the commands of tools.md", listed(), []
+    for page in PAGES:
         for role, text in scripts(page):
             told = report.Report(cooked.around(**{role: text}).text().encode())
             yield f"{page.name}: the script of a {role} {text!r}", told.code, 0
         for program in blocks(page, "python"):
             yield f"{page.name}: the program {program!r}", written(program), 0
     for page in LINKED:
-        for link in re.findall(r"\]\(([^)#:]+)\)", page.read_text()):
-            yield f"{page.name}: the link {link}", (page.parent / link).exists(), True
+        for link, _, anchor in re.findall(r"\]\(([^)#:]*)(#([^)]+))?\)", page.read_text()):
+            there = (page.parent / link).resolve() if link else page
+            yield f"{page.name}: the link {link}", there.exists(), True
+            if anchor and there.suffix == ".md":
+                yield f"{page.name}: the link {link}#{anchor}", anchor in anchors(there.read_text()), True
     yield from toured()
-    yield "mistakes.md", (tool.TOP / "docs/mistakes.md").read_text(), mistakes()
     yield from planting()
     yield from renaming()
     yield from notices()
 
 
-MISTAKES = """# 102 mistakes
-
-Each is a document in `tools/tests/mistakes`, made from `tools/tests/right.json` by one change. The same folder has all that [explain](explain.md) reports of it. This table has the lines of the mistake itself. Each advice was followed: the document is then accepted, or its next fault is another one (`tools/tests/advised.py`).
-
-| Mistake | Where | What is reported |
-|---|---|---|
-"""
+def printed(command):
+    """What a command prints; one with a pipe is run by a shell."""
+    if "|" not in command:
+        return tool.run(*shlex.split(command)[1:])[1]
+    return subprocess.run(["bash", "-c", command], stdout=subprocess.PIPE, stderr=subprocess.STDOUT, cwd=tool.TOP).stdout.decode()
 
 
-def mistakes():
-    """The page of the mistakes, by what stands beside them: the first refusal, or the last warning."""
-    rows = []
-    for told in sorted((tool.TESTS / "mistakes").glob("*.told")):
-        text = told.read_text().replace(f"{tool.text(told.with_suffix('.json'))}:", "").lstrip()
-        entries = [part.split("\n  ") for part in re.split(r"\n(?=[0-9]+:)", text.rstrip("\n"))]
-        warning = next((it for it in entries[1:] if "has no field" in it[1]), entries[-1])
-        head, *rest = warning if entries[0][0].startswith("not refused") else entries[0]
-        says = [it for it in rest if not it.startswith("stands: ")]
-        rows.append(f"| {told.stem.replace('_', ' ')} | `{head}` | {'; '.join(says)} |\n")
-    return MISTAKES + "".join(rows)
+def listed():
+    """The commands that virraupez has and the table of tools.md lacks, and those that are only in the table."""
+    rows = re.findall(r"^\| (`.*?) \|", TOOLS.read_text().partition("\n## ")[0], re.M)
+    return sorted({name for row in rows for name in re.findall(r"`([a-z]+)`", row)} ^ set(commands_of.NAMES))
+
+
+def anchors(text):
+    """The anchors of a page's headings, as GitHub makes them."""
+    found = []
+    for heading in re.findall(r"^#+ (.*)$", re.sub(r"^```.*?^```$", "", text, flags=re.S | re.M), re.M):
+        bare = re.sub(r"\[([^\]]*)\]\([^)]*\)", r"\1", heading).lower()
+        anchor = re.sub(r"[^\w\- ]", "", bare).replace(" ", "-")
+        found.append(anchor if anchor not in found else f"{anchor}-{sum(it == anchor or it.startswith(f'{anchor}-') for it in found)}")
+    return found
 
 
 def toured():

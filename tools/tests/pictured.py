@@ -1,4 +1,4 @@
-"""The pictures of docs/view.md, which are taken of pages in headless Chromium, if that is installed: of the navigation, of two runs, and of a
+"""The pictures of docs/tools.md, which are taken of pages in headless Chromium, if that is installed: of the navigation, of two runs, and of a
 long run, in light and dark, on a wide screen, a middle one and a narrow one. `bench/page` writes them anew."""
 import subprocess
 
@@ -69,14 +69,14 @@ def measures(path):
 
 
 def answers(_program):
-    pages = (tool.TOP / "docs/view.md").read_text()
-    yield "the pictures that docs/view.md shows", [name for name in PICTURES if f"](pictures/{name}.webp)" not in pages], []
+    pages = (tool.TOP / "docs/tools.md").read_text()
+    yield "the pictures that docs/tools.md shows", [name for name in PICTURES if f"](pictures/{name}.webp)" not in pages], []
     yield "those that are in docs/pictures", [name for name in PICTURES if measures(tool.TOP / f"docs/pictures/{name}.webp") != PICTURES[name][1:3]], []
     yield from browser.opened(of_pictures, "pictures of pages", "no picture of a page was taken", 1400, 800)
 
 
 def of_pictures(page, folder):
-    """The pictures of docs/view.md, taken anew."""
+    """The pictures of docs/tools.md, taken anew."""
     for name, (words, wide, high, is_dark, _) in PICTURES.items():
         if words:
             path = take(page, name, folder, words)

@@ -12,6 +12,8 @@ from virraupez import runs
 
 from . import sandbox, tool
 
+# The programs that the commands run here. What is shipped as exec_serve is never run, but asked for its sum.
+PROGRAMS = "exec_run", "exec_serve"
 STRANGER = "#!/bin/sh\ncat >/dev/null\necho a stranger was here\n"
 # What a run reads of the package before the program has its document, and no more: it begins at once.
 READ = "command commands commands.run grammar installation launcher runs virraupez".split()
@@ -57,8 +59,8 @@ def of_strangers(top):
     copied(package)
     for place in (top, top / "release", top / "lib"):
         place.mkdir(exist_ok=True)
-        (place / "exec_run").write_text(STRANGER)
-        (place / "exec_run").chmod(0o755)
+        for name in PROGRAMS:
+            sandbox.written(place / name, STRANGER)
     for name in ("VERSION", "lib/VERSION", "release/program.sh"):
         (top / name).write_text("9.9.9\n")
     for words in (("run", "examples/timer.json"), ("search", "examples/robot.json", "--robust", "log", "--drop", "e_stop"), ("--version",)):
@@ -77,8 +79,10 @@ def installed(program):
         (shipped / "docs").mkdir()
         for name in ("VERSION", "docs/HEADLINE.md"):
             shutil.copy(tool.TOP / name, shipped / name)
-        shutil.copy(program, shipped / "exec_run")
-        (shipped / "about").write_text(f"exec_run program {hashlib.sha256(pathlib.Path(program).read_bytes()).hexdigest()}\n")
+        for name in PROGRAMS:
+            shutil.copy(program, shipped / name)
+        sum_of = hashlib.sha256(pathlib.Path(program).read_bytes()).hexdigest()
+        (shipped / "about").write_text("".join(f"{name} program {sum_of}\n" for name in PROGRAMS))
         yield package
 
 
@@ -88,11 +92,12 @@ def of_installed(package):
     yield "run --reference of an installed package", started(package, "run", "--reference", "examples/timer.json")[1].endswith(timer), True
     yield "run --definitions of an installed package", started(package, "run", "--definitions", "examples/timer.json")[1].endswith(timer), True
     yield "the version of an installed package", started(package, "--version"), (0, f"virraupez {(tool.TOP / 'VERSION').read_text()}")
-    file = package / "shipped/exec_run"
-    held = bytearray(file.read_bytes())
+    files = [package / "shipped" / name for name in PROGRAMS]
+    held = bytearray(files[0].read_bytes())
     held[len(held) // 2] ^= 1
     for what, given in (("a changed byte", bytes(held)), ("another program", STRANGER.encode())):
-        file.write_bytes(given)
+        for file in files:
+            file.write_bytes(given)
         for words in (("run", "examples/timer.json"), ("search", "examples/robot.json", "--robust", "log", "--drop", "e_stop")):
             status, text = started(package, *words)
             yield f"{words[0]} by an installed program with {what}: {text}", (status, "isn't the program that was installed" in text), (2, True)

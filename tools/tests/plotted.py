@@ -179,12 +179,12 @@ def of_pictures():
 
 
 def of_pandas():
-    """The columns of docs/lines.md, if a Python here has pandas."""
+    """The columns of docs/tools.md, if a Python here has pandas."""
     pythons = [it for it in (sys.executable, "/usr/bin/python3") if os.path.exists(it) and subprocess.run([it, "-c", "import pandas"], stderr=subprocess.DEVNULL).returncode == 0]
     if not pythons:
-        tool.UNDONE.append("the columns of docs/lines.md weren't made: pandas isn't installed")
+        tool.UNDONE.append("the columns of docs/tools.md weren't made: pandas isn't installed")
         return
-    block = re.search("```pandas\n(.*?)```", (tool.TOP / "docs/lines.md").read_text(), re.S)[1]
+    block = re.search("```pandas\n(.*?)```", (tool.TOP / "docs/tools.md").read_text(), re.S)[1]
     with tempfile.TemporaryDirectory() as folder:
         (pathlib.Path(folder) / "run.jsonl").write_text(tool.run("../virraupez", "lines", NAVIGATION[1], "--json")[1])
         block += "\nprint(values.cmd_vel.dropna().astype(int).to_json(), waiting.astype(int).to_json())"

@@ -256,8 +256,8 @@ def of_shards(top):
         (one + two.replace('"seed":1', '"seed":2') + three, 2, "a shard of another search"),
         (one + (top / "1_of_2").read_text(), 2, "a shard of another search"),
         (one + two.replace(two.splitlines(True)[1], "") + three, 2, "runs that break a rule, and "),
-        (one + two.replace('"program":"exec_run', '"program":"exec_ruin') + three, 2, "a shard that was run by exec_ruin"),
-        (one + two.replace('"by":{"version":"', '"by":{"version":"9') + three, 2, "and those before it by exec_run "),
+        (one + two.replace('"program":"exec_serve', '"program":"exec_sever') + three, 2, "a shard that was run by exec_sever"),
+        (one + two.replace('"by":{"version":"', '"by":{"version":"9') + three, 2, "and those before it by exec_serve "),
         (two.split("\n", 1)[1], 2, "-:1:1: a line before the first line of its shard\n"),
         (one.split("\n")[0] + "\n{}\n", 2, "-:2:1: no line of a shard: '{}'\n"),
         (one[:200] + "\n", 2, "-:1:1: no line of a shard: "),
@@ -383,13 +383,13 @@ def of_few(top):
 
 
 def of_choice():
-    """A search asks once which program ./exec_run runs, as ./exec_run itself does, and runs that."""
+    """A search asks once which program ./exec_serve runs, as ./exec_serve itself does, and runs that."""
     with sandbox.of("echo exec_run ran >&2; exit 70") as top:
         (top / "small.json").write_text(small())
-        (top / "release/it").write_text("#!/bin/sh\n[ \"$*\" = '1 1' ] && cat >/dev/null && echo 'end 0'\n")
-        (top / "release/it").chmod(0o755)
-        for known, chosen, should in (("true", "echo asked >&2; false", (0, "4 runs, all there are: no rule breaks\n")), ("false", "true", (0, "4 runs, all there are: no rule breaks\n")), ("false", "false", (2, "virraupez search: ./exec_run has no program to run\n"))):
-            (top / "release/program.sh").write_text(f"ask_of() {{ [ $1 = exec_run ]; }}\nis_known() {{ program=release/it; {known}; }}\nchoose() {{ {chosen}; }}\n")
+        sandbox.written(top / "release/it", sandbox.SERVE.replace("./exec_run", "release/one"))
+        sandbox.written(top / "release/one", "#!/bin/sh\n[ \"$*\" = '1 1' ] && cat >/dev/null && echo 'end 0'\n")
+        for known, chosen, should in (("true", "echo asked >&2; false", (0, "4 runs, all there are: no rule breaks\n")), ("false", "true", (0, "4 runs, all there are: no rule breaks\n")), ("false", "false", (2, "virraupez search: ./exec_serve has no program to run\n"))):
+            (top / "release/program.sh").write_text(f"ask_of() {{ [ $1 = exec_serve ]; }}\nis_known() {{ program=release/it; {known}; }}\nchoose() {{ {chosen}; }}\n")
             yield f"the program that is {known} and {chosen}", started(top, "search", "small.json", *ruled(top, "never drop"), "--drop", "x"), should
 
 

@@ -173,14 +173,16 @@ def of_orders(top):
 def of_interrupt(top):
     """Ctrl-C: what is smallest so far is written."""
     words = [sys.executable, top / "virraupez", "shrink", "later.json", "--rules", RULES, "-o", "ended.json"]
-    slow = top / "exec_run"
-    before = slow.read_text()
-    slow.write_text(before.replace("exec ", "sleep 0.05; exec "))
+    slow, serve = top / "exec_run", top / "exec_serve"
+    before = slow.read_text(), serve.read_text()
+    slow.write_text(before[0].replace("exec ", "sleep 0.05; exec "))
+    serve.write_text(sandbox.SERVE)
     running = subprocess.Popen(words, stdout=subprocess.PIPE, stderr=subprocess.PIPE, cwd=top, start_new_session=True, preexec_fn=tool.heeding)
-    time.sleep(2)
+    time.sleep(4)
     os.killpg(running.pid, signal.SIGINT)
     told = running.communicate(timeout=tool.SECONDS)[1].decode()
-    slow.write_text(before)
+    for path, text in zip((slow, serve), before):
+        path.write_text(text)
     yield f"a shrink that is ended: {told}", (running.returncode, "Traceback" in told), (130, False)
     if (top / "ended.json").exists():
         yield "what it wrote", f"{RULES}:5:1: fails" in failing(top, json.loads((top / "ended.json").read_text()), RULES), True

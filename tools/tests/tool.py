@@ -16,8 +16,8 @@ TOP = TOOLS.parent
 TESTS = TOOLS / "tests"
 SECONDS = 60
 PLACED = re.compile("[^\\n]+:[0-9]+:[0-9]+: ")
-# The built exec_upgrade, if the tests are given one.
-UPGRADES = []
+# The built exec_upgrade and the built exec_serve, if the tests are given them.
+UPGRADES, SERVES = [], []
 # What wasn't tested, since a program isn't installed here.
 UNDONE = []
 

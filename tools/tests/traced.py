@@ -136,12 +136,12 @@ def nanoseconds(microseconds):
 
 
 def of_page():
-    """The commands of docs/lines.md, those with jq if it is installed."""
-    for block in documented.blocks(tool.TOP / "docs/lines.md", "text"):
+    """The commands of "lines" in docs/tools.md, those with jq if it is installed."""
+    for block in documented.blocks(documented.Section(documented.TOOLS, "lines"), "text"):
         for part in re.split(r"^\$ ", block, flags=re.M)[1:]:
             command, _, output = part.partition("\n")
             if "jq" in command and not shutil.which("jq"):
-                tool.UNDONE.append(f"a command of lines.md wasn't run, since jq isn't installed: {command}")
+                tool.UNDONE.append(f"a command of tools.md wasn't run, since jq isn't installed: {command}")
                 continue
             ran = subprocess.run(["bash", "-c", command], stdout=subprocess.PIPE, stderr=subprocess.STDOUT, cwd=tool.TOP)
-            yield f"lines.md: {command}", ran.stdout.decode(), output
+            yield f"tools.md: {command}", ran.stdout.decode(), output

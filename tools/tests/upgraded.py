@@ -8,7 +8,7 @@ import sys
 
 from virraupez import upgrades
 
-from . import launched, sandbox, tool, walked
+from . import documented, launched, sandbox, tool, walked
 
 sys.path.insert(0, str(tool.TOP / "cases"))
 import codes
@@ -192,6 +192,6 @@ def of_program(top):
             yield f"upgrade {words} {name}", launched.started(top, "upgrade", *words, name), (status, text.replace(SAYS, ""))
     refused = launched.started(top, "upgrade", "-", given=REFUSED[0].encode())
     yield "upgrade of a refused document", refused, (1, REFUSED[1])
-    for command, output in walked.commands(tool.TOP / "docs/upgrade.md"):
+    for command, output in walked.commands(documented.Section(documented.TOOLS, "upgrade")):
         ran = subprocess.run(["bash", "-c", command], stdout=subprocess.PIPE, stderr=subprocess.STDOUT, timeout=tool.SECONDS, cwd=top)
-        yield f"upgrade.md: {command}", ran.stdout.decode(), output
+        yield f"tools.md: {command}", ran.stdout.decode(), output

@@ -35,6 +35,7 @@ def answers(program):
     with tool.file(hostile) as name:
         told = tool.run(COMMAND, "view", name, "-", given=b"end 0\n")
         yield f"a document with a script in it: {told}", told[0], 2
+    yield from of_part()
     yield from of_page()
     of_program = lambda page, folder: of_pages(page, folder, program)
     yield from browser.opened(of_program, "pages in Chromium", "pages weren't opened in a browser", 1400, 800)
@@ -51,15 +52,21 @@ def of_pages(page, folder, program):
     yield from of_much(page, folder, program)
 
 
+def of_part():
+    """Goals that expire after the rounds that are shown."""
+    status, text = tool.within("view", "examples/result_expires.json", "examples/result_expires.txt", "--rounds", "1-3")
+    yield "view of goals before they expire", (status, [it[-1] for it in data_of(text)["runs"][0]["goals"]] if status == 0 else text), (0, [None])
+
+
 def of_page():
-    """The commands of docs/view.md write pages."""
+    """The commands of "view" in docs/tools.md write pages."""
     with tempfile.TemporaryDirectory() as folder:
         for name in ("virraupez", "examples", "tools"):
             (pathlib.Path(folder) / name).symlink_to(tool.TOP / name)
-        for command, output in documented.commands(tool.TOP / "docs/view.md"):
+        for command, output in documented.commands(documented.Section(documented.TOOLS, "view")):
             ran = subprocess.run(["bash", "-c", command], stdout=subprocess.PIPE, stderr=subprocess.STDOUT, cwd=folder)
             path = pathlib.Path(folder) / command.split(" ")[-1].strip()
-            yield f"view.md: {command}", (ran.stdout.decode(), "<html" in path.read_text()), (output, True)
+            yield f"tools.md: {command}", (ran.stdout.decode(), "<html" in path.read_text()), (output, True)
 
 
 def data_of(text):

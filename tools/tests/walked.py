@@ -1,5 +1,5 @@
-"""That each command of docs/tour.md, docs/modelling.md, docs/check.md, docs/search.md and docs/command.md does what its page shows, run by a shell as it stands there, one after the
-other in a copy of the repository; and that what the pages show of files is in them."""
+"""That each command of docs/tour.md, docs/modelling.md, docs/check.md, docs/search.md and of "run" in docs/tools.md does what its page
+shows, run by a shell as it stands there, one after the other in a copy of the repository; and that what the pages show of files is in them."""
 import re
 import subprocess
 
@@ -21,8 +21,8 @@ def commands(page):
 
 
 def answers(program):
-    for name in documented.WALKED:
-        page = tool.TOP / "docs" / name
+    for page in documented.WALKED:
+        name = page.name
         with sandbox.with_program(program) as top:
             for command, output in commands(page):
                 ran = subprocess.run(["bash", "-c", command], stdout=subprocess.PIPE, stderr=subprocess.STDOUT, timeout=tool.SECONDS, cwd=top)

@@ -44,4 +44,18 @@ def answers(_program):
             (top / page).write_text("")
         (top / "docs/HEADLINE.md").write_text(PAGES[-1][1])
         yield "the same words on a page that a script writes", tool.run("words", top)[0], 0
+        yield from of_roles(top)
     yield "wrong words of words", tool.run("words", "--all")[0], 1
+
+
+def of_roles(top):
+    """All words of the pages that a role reads, and of those in which it looks things up."""
+    text = "## Pages\n\n| Role | Reads | Looks up |\n|---|---|---|\n| readers | [x](docs/x.md) | [y](docs/y.md), the pages of crates |\n"
+    (top / "CONTRIBUTING.md").write_text(text)
+    (top / "crates/x/README.md").write_text("One word more.\n")
+    (top / "docs/y.md").write_text(SHORT)
+    for count, status in ((2_400, 0), (2_401, 1)):
+        (top / "docs/x.md").write_text(f"| {SHORT * count}|\n")
+        found, told = tool.run("words", top)
+        yield f"a role: {told}", (found, f"{'readers read, look up':26}{count * 5:8}{8:9}\n" in told), (status, True)
+        yield f"the limit of a role: {told}", " words of pages that readers read, and at most 12000 are wanted\n" in told, bool(status)

@@ -12,7 +12,32 @@
     print(virraupez.run(robot))
 
 docs/write.md and docs/python.md have more."""
+from __future__ import annotations
+
 import importlib
+
+# As that of typing, which no command reads at its start: to read it takes as long as a short run.
+TYPE_CHECKING = False
+if TYPE_CHECKING:
+    from typing import Any, List
+
+    # The same names, each with its type.
+    from .api import Break as Break
+    from .api import Executor as Executor
+    from .api import Refused as Refused
+    from .api import Rule as Rule
+    from .api import Search as Search
+    from .api import Transcript as Transcript
+    from .api import Verdict as Verdict
+    from .api import holds as holds
+    from .api import run as run
+    from .api import search as search
+    from .assembler import ScriptError as ScriptError
+    from .assembler import script as script
+    from .build import Document as Document
+    from .build import DocumentError as DocumentError
+    from .build import goal_of as goal_of
+    from .command import Trouble as Trouble
 
 # Where each name is. A module is read if one of its names is asked for, so that a command begins at once.
 PLACES = {
@@ -24,11 +49,11 @@ PLACES = {
 __all__ = sorted(PLACES)
 
 
-def __getattr__(name):
+def __getattr__(name: str) -> Any:
     if name not in PLACES:
         raise AttributeError(f"module {__name__!r} has no attribute {name!r}")
     return getattr(importlib.import_module(f".{PLACES[name]}", __name__), name)
 
 
-def __dir__():
+def __dir__() -> List[str]:
     return sorted({*globals(), *PLACES})

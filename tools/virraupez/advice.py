@@ -1,19 +1,27 @@
 """Warnings of a document: what no code refuses, and what its writer hardly meant. A warning is a fault of the code 0."""
+from __future__ import annotations
+
 from . import grammar as g
-from . import hints
+from . import TYPE_CHECKING, hints
 from .faults import NAME, Fault, article, has, plural
+
+if TYPE_CHECKING:
+    from typing import Any, Collection, Dict, Iterator, List, Optional, Set, Tuple
+
+    from .declarations import Declared, Entity
+    from .shapes import Document, Fields, Form, Instruction, Path
 
 WARNING = 0
 
 
-def warning(path, text, hint="", names=(), at="value", missing=None):
+def warning(path: Path, text: str, hint: str = "", names: Collection[str] = (), at: str = "value", missing: Optional[str] = None) -> Fault:
     return Fault(WARNING, path, text, hint, names, at=at, missing=missing)
 
 
 # ---- fields
 
 
-def form_of(fields, form):
+def form_of(fields: Fields, form: str) -> Optional[str]:
     """The form of an entry, by the one of its three fields that it has, where it is one."""
     if form != "entry":
         return form
@@ -21,7 +29,7 @@ def form_of(fields, form):
     return forms[0] if len(forms) == 1 else None
 
 
-def fields_of(value, form, path=()):
+def fields_of(value: Any, form: Form, path: Path = ()) -> Iterator[Fault]:
     """Warnings of fields that are ignored or stand twice, in a value and all that it holds."""
     if isinstance(form, list):
         if isinstance(form[0], str) and form[0] not in g.SINGLE and has(value, form):
@@ -46,13 +54,13 @@ def fields_of(value, form, path=()):
         yield warning(path + (name,), f"`{name}` stands more than once in this object, and the last one counts", at=NAME)
 
 
-def later_field(name, version, path):
+def later_field(name: str, version: int, path: Path) -> Fault:
     """The warning of a field that another version has."""
     text = f"a document of version {version} has no field `{name}`: it is ignored"
     return warning(path + (name,), text, f"it is a field of documents of version {g.SINCE[name]}", at=NAME)
 
 
-def unknown_field(name, of, path, fields):
+def unknown_field(name: str, of: str, path: Path, fields: Fields) -> Fault:
     text = f"{article(of)} has no field `{clipped(name)}`: it is ignored"
     owners = [plural(form) for form, fields in g.OBJECTS.items() if name in fields]
     meant = next((it for it in hints.FIELDS.get(name.lower(), ()) if it in g.OBJECTS[of] and it not in fields), None)
@@ -63,14 +71,14 @@ def unknown_field(name, of, path, fields):
     return warning(path + (name,), text, hint, near, NAME)
 
 
-def clipped(text, most=60):
+def clipped(text: str, most: int = 60) -> str:
     return text if len(text) <= most else text[: most - 1] + "…"
 
 
 # ---- scripts
 
 
-def reached(script):
+def reached(script: List[Instruction]) -> Set[int]:
     """The places of a script that a run can come to; its length is the place behind its end."""
     seen, todo = set(), [0]
     while todo:
@@ -91,16 +99,16 @@ def reached(script):
 class Script:
     """A script without a fault, with the places that are reached in it."""
 
-    def __init__(self, entity, name, role, instructions):
+    def __init__(self, entity: Entity, name: str, role: str, instructions: List[Instruction]) -> None:
         self.entity, self.name, self.role, self.path = entity, name, role, entity.path + (name,)
         self.instructions, self.reached = instructions, reached(instructions)
 
-    def words(self, *words):
+    def words(self, *words: str) -> List[Instruction]:
         """The reached instructions of some words."""
         return [it for at, it in enumerate(self.instructions) if at in self.reached and it[0] in words]
 
 
-def scripts_of(entity):
+def scripts_of(entity: Entity) -> Iterator[Script]:
     """The scripts of an entity that can be followed."""
     for name, role, instructions, length in entity.scripts():
         items = [item for _, item in instructions]
@@ -109,7 +117,7 @@ def scripts_of(entity):
             yield Script(entity, name, role, items)
 
 
-def unreached(script):
+def unreached(script: Script) -> Iterator[Fault]:
     """The first instruction of each run of instructions that is never reached."""
     for at in range(len(script.instructions)):
         if at not in script.reached and (at == 0 or at - 1 in script.reached):
@@ -118,7 +126,7 @@ def unreached(script):
             yield warning(script.path + (at,), f"never reached: {why}")
 
 
-def undecided(script):
+def undecided(script: Script) -> Iterator[Fault]:
     """Warnings of a handler that decides nothing, or what isn't a decision."""
     refuses = "every goal request is rejected" if script.name == "on_goal" else "every cancel request is refused"
     decisions = script.words("decide")
@@ -133,7 +141,7 @@ def undecided(script):
 ENDLESS, END_IT = "no ending is reached: its goals never end", "succeed, abort and canceled end a goal"
 
 
-def endless(script):
+def endless(script: Script) -> Iterator[Fault]:
     """Warnings of what a script leaves out: an ending, a reply."""
     if script.role == "goal" and not script.words(*g.ENDINGS):
         yield warning(script.path, ENDLESS, END_IT)
@@ -147,7 +155,13 @@ def endless(script):
 class Traffic:
     """What scripts and the feed send to topics and servers, and through clients."""
 
-    def __init__(self, declared):
+    sent: Dict[str, Set[str]]
+    scripts: List[Script]
+    clients: Dict[Tuple[str, Optional[str]], List[str]]
+    named: Set[str]
+    asked: Dict[Tuple[str, Optional[str], str], bool]
+
+    def __init__(self, declared: Declared) -> None:
         self.sent, self.scripts, self.clients, self.named = {}, [], {}, set()
         # Whether a client of a service or a server sends to it by a word, once it was asked.
         self.asked = {}
@@ -164,16 +178,16 @@ class Traffic:
                 if field in entity.fields and field not in followed:
                     self.named.update(texts(entity.fields[field]))
         for _, entry in declared.feed:
-            field = form_of(entry, "entry")
-            name = entry.get("topic" if field == "message" else "action")
+            kind = form_of(entry, "entry")
+            name = entry.get("topic" if kind == "message" else "action")
             if g.is_text(name):
-                self.sent.setdefault(f"fed {field}", set()).add(name)
+                self.sent.setdefault(f"fed {kind}", set()).add(name)
 
-    def has(self, name, *words):
+    def has(self, name: Optional[str], *words: str) -> bool:
         """Whether something is sent to a name by some words. A script with a fault may send to each name in it."""
         return name in self.named or any(name in self.sent.get(word, ()) for word in words)
 
-    def through(self, kind, name, word):
+    def through(self, kind: str, name: Optional[str], word: str) -> bool:
         """Whether a client of a service or a server sends to it."""
         key = kind, name, word
         if key not in self.asked:
@@ -181,7 +195,7 @@ class Traffic:
         return self.asked[key]
 
 
-def texts(value):
+def texts(value: Any) -> Iterator[str]:
     """The words of all texts in a value of lists."""
     todo = [[value]]
     while todo:
@@ -192,7 +206,7 @@ def texts(value):
                 todo.append(item)
 
 
-def unfed(declared, traffic):
+def unfed(declared: Declared, traffic: Traffic) -> Iterator[Fault]:
     """Warnings of entities that nothing is sent to."""
     subscribed = {it.refers_to() for it in declared.entities if it.kind == "subscriptions"}
     for at, name in declared.topics:
@@ -214,7 +228,7 @@ UNFED = {
 }
 
 
-def is_fed(traffic, entity):
+def is_fed(traffic: Traffic, entity: Entity) -> bool:
     """Whether something is sent to an entity; one that refers to nothing counts as fed."""
     if entity.kind == "subscriptions":
         return entity.refers_to() is None or traffic.has(entity.refers_to(), "pub", "fed message")
@@ -225,7 +239,7 @@ def is_fed(traffic, entity):
     return traffic.has(entity.name, "call") if entity.kind == "clients" else traffic.has(entity.name, "goal", "cancel")
 
 
-def servers(declared, traffic):
+def servers(declared: Declared, traffic: Traffic) -> Iterator[Fault]:
     """Warnings of servers without a handler or a script."""
     for entity in declared.entities:
         if entity.kind != "actions":
@@ -239,7 +253,7 @@ def servers(declared, traffic):
             yield warning(entity.path, "there is no `on_cancel`: every cancel request is refused", 'add "on_cancel": [["decide", 2]], which accepts', missing="on_cancel")
 
 
-def moments(declared):
+def moments(declared: Declared) -> Iterator[Fault]:
     """Warnings of moments at which nothing is due."""
     last = max((moment for _, moment in declared.moments), default=None)
     if not declared.has_moments:
@@ -252,7 +266,7 @@ def moments(declared):
             yield warning(entity.path + ("period",), text, "let `moments` go further")
 
 
-def warnings(document, declared):
+def warnings(document: Document, declared: Declared) -> Iterator[Fault]:
     """All warnings of a document that is an object."""
     yield from fields_of(document, "document")
     traffic = Traffic(declared)

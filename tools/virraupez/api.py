@@ -7,9 +7,12 @@ import dataclasses
 import functools
 import json
 import pathlib
-from typing import Any, List, Mapping, Optional, Sequence, Tuple, Union
+from typing import Any, Dict, Iterator, List, Mapping, Optional, Sequence, Tuple, Union
 
-from . import build, checker, command, fit, grammar, judge, report, rulebook, rules, runs, searching, transcript
+from . import TYPE_CHECKING, build, checker, command, fit, grammar, judge, report, rulebook, rules, runs, searching, transcript
+
+if TYPE_CHECKING:
+    from typing import Iterator
 
 DocumentLike = Union[build.Document, Mapping[str, Any], str, bytes, pathlib.Path]
 Text = Union[str, pathlib.Path]
@@ -21,7 +24,7 @@ DOCUMENT, RULES, TRANSCRIPT = "the document", "the rules", "the transcript"
 class Refused(ValueError):
     """What is said of a document that is refused: its code, and the places of its faults."""
 
-    def __init__(self, code: int, places: str):
+    def __init__(self, code: int, places: str) -> None:
         super().__init__(places or f"refused {code}")
         self.code = code
 
@@ -44,7 +47,7 @@ class Transcript:
         """The picture of its first rounds, as SVG."""
         from . import picture, scene
 
-        made = scene.Scene(self.document, 1, scene.ROUNDS)
+        made = scene.Scene(dict(self.document), 1, scene.ROUNDS)
         made.take(self.lines)
         return picture.Picture(made).svg()
 
@@ -107,7 +110,7 @@ class Executor:
     """Runs documents one after another. Which program does it is asked once. With `reference` the executor in Python runs them,
     of which nothing is proved."""
 
-    def __init__(self, reference: bool = False):
+    def __init__(self, reference: bool = False) -> None:
         self.program = judge.executor(reference)
 
     def run(self, document: DocumentLike) -> Transcript:
@@ -131,7 +134,7 @@ def executor(reference: bool) -> Executor:
 
 def holds(text: Text, of: Union[Transcript, Text]) -> Verdict:
     """Holds a transcript to rules. The names of one that `run` gave are those of its document."""
-    own = fit.Own(DOCUMENT, of.document) if isinstance(of, Transcript) and of.document else None
+    own = fit.Own(DOCUMENT, dict(of.document)) if isinstance(of, Transcript) and of.document else None
     check = checker.Check(rulebook.read(text_of(text), name_of(text, RULES), own.kinds if own else None))
     given = of.text if isinstance(of, Transcript) else text_of(of)
     for block in transcript.checked(Stream(given), name_of(of, TRANSCRIPT)):
@@ -142,7 +145,7 @@ def holds(text: Text, of: Union[Transcript, Text]) -> Verdict:
 
 def outcome(rule: rules.Rule) -> Rule:
     found = rule.failure or rule.open_end
-    return Rule(rule.text, rule.outcome(), found and found.number, judge.said(found) if found else "")
+    return Rule(rule.text, rule.outcome(), found.number if found else None, judge.said(found) if found else "")
 
 
 def search(document: DocumentLike, text: Text, vary: Words, *, runs: int = 10000, seed: int = 1, all: bool = False, processes: int = 1, reference: bool = False) -> Search:
@@ -150,8 +153,8 @@ def search(document: DocumentLike, text: Text, vary: Words, *, runs: int = 10000
     from . import table
 
     value = json.loads(lawful(document))
-    ruled = {"rules": name_of(text, RULES), "text": text_of(text), "rule": None, "robust": []}
-    plan = {"name": DOCUMENT, "document": value, **ruled, "vary": list(map(list, vary)), "runs": runs, "seed": seed, "all": all}
+    ruled: Dict[str, Any] = {"rules": name_of(text, RULES), "text": text_of(text), "rule": None, "robust": []}
+    plan = {"name": DOCUMENT, "document": value, **ruled, "vary": [list(it) for it in vary], "runs": runs, "seed": seed, "all": all}
     made = searching.Search(plan)
     tally, judging = searching.Tally(made), judge.Judge(judge.executor(reference), made.rules)
     for part in made.parts(judging, 1, 1, processes):
@@ -161,7 +164,7 @@ def search(document: DocumentLike, text: Text, vary: Words, *, runs: int = 10000
     return Search(tally.runs, made.is_whole, tuple(breaks(made, tally)), "\n".join(table.lines(tally, report.unpainted)))
 
 
-def breaks(made, tally):
+def breaks(made: searching.Search, tally: searching.Tally) -> Iterator[Break]:
     if tally.own:
         for at, says in tally.own.breaks:
             yield Break(made.rules[at].text, 1, 0, (), says, made.document)
@@ -177,7 +180,7 @@ def breaks(made, tally):
 class Stream:
     """A text that is read by parts."""
 
-    def __init__(self, text: str):
+    def __init__(self, text: str) -> None:
         self.text, self.at = text, 0
 
     def read(self, count: int) -> str:

@@ -10,9 +10,18 @@ stop:
     canceled laps
 
 docs/write.md has every line that there is."""
+from __future__ import annotations
+
 import re
 
-from . import grammar, hints
+from . import TYPE_CHECKING, grammar, hints
+
+if TYPE_CHECKING:
+    from typing import Dict, List, Optional, Sequence, Set, Tuple, Union
+
+    from .shapes import Instruction, Item, Script
+
+    Made = Union[Instruction, "Jump"]
 
 NAME = "[A-Za-z_][A-Za-z0-9_]*"
 LABEL = re.compile(f"({NAME}) *:")
@@ -49,14 +58,14 @@ RESERVED = {*grammar.OPERANDS, "let", "if", "not", "goto", "min", "max"}
 class Fault:
     """What is wrong with a line of a script: its number, the part of it that is wrong, and what is said of that."""
 
-    def __init__(self, line, part, wrong):
+    def __init__(self, line: int, part: str, wrong: str) -> None:
         self.line, self.part, self.wrong = line, part, wrong
 
 
 class ScriptError(ValueError):
     """A script of which some lines say nothing, with all their faults."""
 
-    def __init__(self, faults):
+    def __init__(self, faults: List[Fault]) -> None:
         super().__init__("\n".join(f"line {it.line} of the script: {it.wrong}" for it in faults))
         self.faults = faults
 
@@ -64,7 +73,7 @@ class ScriptError(ValueError):
 class WrongLine(Exception):
     """The part of a line that is wrong, and what is said of it."""
 
-    def __init__(self, part, wrong):
+    def __init__(self, part: str, wrong: str) -> None:
         super().__init__(wrong)
         self.part, self.wrong = part, wrong
 
@@ -72,11 +81,11 @@ class WrongLine(Exception):
 class Jump:
     """A skip to a label that isn't counted yet."""
 
-    def __init__(self, operand, label):
+    def __init__(self, operand: Item, label: str) -> None:
         self.operand, self.label = operand, label
 
 
-def script(text):
+def script(text: str) -> Script:
     """The instructions that a text says."""
     made = Assembled(text)
     if made.faults:
@@ -88,7 +97,11 @@ class Assembled:
     """The instructions that a text says, the line of each, and the faults of its lines. There is none of the first where there
     is one of the last."""
 
-    def __init__(self, text):
+    faults: List[Fault]
+    items: List[Tuple[int, Made]]
+    labels: Dict[str, int]
+
+    def __init__(self, text: str) -> None:
         self.text, self.faults, self.items, self.labels = text, [], [], {}
         lines = [" ".join(line.split("#", 1)[0].split()) for line in text.split("\n")]
         self.says = Lines(lines)
@@ -97,7 +110,7 @@ class Assembled:
         counted = [] if self.faults else self.counted()
         self.instructions, self.lines = [item for _, item in counted], [number for number, _ in counted]
 
-    def take(self, number, line):
+    def take(self, number: int, line: str) -> None:
         """Takes a line: its label, and the instructions behind it."""
         try:
             label = LABEL.match(line)
@@ -109,14 +122,14 @@ class Assembled:
         except WrongLine as wrong:
             self.faults.append(Fault(number, wrong.part, wrong.wrong))
 
-    def name(self, label):
+    def name(self, label: str) -> None:
         if label == END:
             raise WrongLine(label, "the label end is the script's end already")
         if label in self.labels:
             raise WrongLine(label, f"the label {label} stands twice")
         self.labels[label] = len(self.items)
 
-    def counted(self):
+    def counted(self) -> List[Tuple[int, Instruction]]:
         """The instructions with their jumps counted. A jump to what stands next needs no instruction, unless one skips it."""
         items, labels = self.items, {**self.labels, END: len(self.items)}
         for at, (number, item) in enumerate(items):
@@ -125,15 +138,18 @@ class Assembled:
         if self.faults:
             return []
         skipped = {at + 1 for at, (_, item) in enumerate(items) if isinstance(item, list) and item[0] == "skip"}
-        left = set()
+        left: Set[int] = set()
         for at, (_, item) in reversed(list(enumerate(items))):
             if isinstance(item, Jump) and at not in skipped and left.issuperset(range(at + 1, labels[item.label])):
                 left.add(at)
-        place = lambda at: at - sum(gone < at for gone in left)
+
+        def place(at: int) -> int:
+            return at - sum(gone < at for gone in left)
+
         made = [(number, item, place(at)) for at, (number, item) in enumerate(items) if at not in left]
         return [(number, skip(item, at, place(labels[item.label])) if isinstance(item, Jump) else item) for number, item, at in made]
 
-    def demand_ahead(self, number, label, at, labels):
+    def demand_ahead(self, number: int, label: str, at: int, labels: Dict[str, int]) -> None:
         if label not in labels:
             near = hints.meant(label, labels)
             self.faults.append(Fault(number, label, f"there is no label {label}; {near}".rstrip("; ")))
@@ -145,7 +161,7 @@ class Assembled:
             self.faults.append(Fault(number, label, says))
 
 
-def skip(jump, at, to):
+def skip(jump: Jump, at: int, to: int) -> Instruction:
     """A skip from a place to another; one that would pass nothing over passes the next instruction, which is itself none."""
     return ["skip", jump.operand, to - at - 1] if to > at + 1 else ["set", "r0", "add", "r0", 0]
 
@@ -156,12 +172,14 @@ def skip(jump, at, to):
 class Lines:
     """What the lines of a script say, by the names that those before them gave."""
 
-    def __init__(self, lines):
+    named: Dict[str, Item]
+
+    def __init__(self, lines: List[str]) -> None:
         used = {name for line in lines for name in REGISTER.findall(line)}
         self.free = next((name for name in reversed(grammar.OPERANDS[:8]) if name not in used), None)
         self.named = {}
 
-    def instructions(self, line):
+    def instructions(self, line: str) -> Sequence[Made]:
         """The instructions of a line, with jumps that aren't counted."""
         named, jump = NAMED.fullmatch(line), JUMP.fullmatch(line)
         if named:
@@ -178,7 +196,7 @@ class Lines:
             raise WrongLine(word, f"{word!r} is no instruction; {meant(word)}".rstrip("; "))
         return [self.plain(word, items)]
 
-    def let(self, name, value):
+    def let(self, name: str, value: str) -> List[Made]:
         """Takes a name for what may be read, or a value."""
         if not re.fullmatch(NAME, name) or name in RESERVED:
             raise WrongLine(name, f"{name!r} is no name that let can give: letters, digits and _, and none of the words of scripts")
@@ -187,7 +205,7 @@ class Lines:
         self.named[name] = self.operand(value)
         return []
 
-    def plain(self, word, items):
+    def plain(self, word: str, items: List[str]) -> Instruction:
         """An instruction by its word, with its items as values where they are no names of entities."""
         if word == "cancel":
             if len(items) < 2 or items[1] not in grammar.CANCELS:
@@ -200,7 +218,7 @@ class Lines:
             raise WrongLine(word, f"{word} takes {kept + len(forms)} items here and not {len(items)}")
         return [word, *items[:kept], *map(self.operand, items[kept:])]
 
-    def operand(self, text):
+    def operand(self, text: str) -> Item:
         if NUMBER.fullmatch(text) and grammar.is_number(text.lstrip("-")):
             return int(text)
         if text in grammar.OPERANDS:
@@ -210,17 +228,17 @@ class Lines:
         near = hints.meant(text, self.named)
         raise WrongLine(text, f"{text[:60]!r} is no operand: a value, r0 to r7, g0 to g7, in, aux, now or a name of let; {near}".rstrip("; "))
 
-    def cell(self, text):
+    def cell(self, text: str) -> str:
         """The register or the variable that is set."""
         cell = self.named.get(text, text)
-        if cell in grammar.CELLS:
+        if isinstance(cell, str) and cell in grammar.CELLS:
             return cell
         if text in self.named or text in grammar.OPERANDS:
             raise WrongLine(text, f"{text} can't be set: it is {cell}" if cell != text else f"{text} can only be read")
         near = hints.meant(text, self.named)
         raise WrongLine(text, f"{text[:60]!r} can't be set: r0 to r7, g0 to g7 or a name of let can; {near}".rstrip("; "))
 
-    def assignment(self, to, operation, text):
+    def assignment(self, to: str, operation: str, text: str) -> List[Made]:
         """What sets a register or a variable."""
         to = self.cell(to)
         if operation:
@@ -234,16 +252,17 @@ class Lines:
             return [["set", to, "eq", self.operand(text[4:]), 0]]
         return [["set", to, "add", self.operand(text), 0]]
 
-    def computed(self, to, one, operation, other):
+    def computed(self, to: str, one: str, operation: str, other: str) -> List[Made]:
         name, exchanged, negated = OPERATIONS[operation.strip()]
-        one, other = self.operand(one), self.operand(other)
-        made = [["set", to, name, *((other, one) if exchanged else (one, other))]]
-        return made + [["set", to, "eq", to, 0]] * negated
+        first, second = self.operand(one), self.operand(other)
+        made: List[Made] = [["set", to, name, *((second, first) if exchanged else (first, second))]]
+        opposite: List[Made] = [["set", to, "eq", to, 0]]
+        return made + opposite * negated
 
-    def jumps(self, negated, condition, label):
+    def jumps(self, negated: Optional[str], condition: Optional[str], label: str) -> List[Made]:
         """A goto, with what it asks for. A comparison is computed in a register that the script doesn't name."""
         infix = INFIX.fullmatch(condition) if condition else None
-        if infix and infix[2] in OPPOSITE:
+        if condition and infix and infix[2] in OPPOSITE:
             if self.free is None:
                 raise WrongLine(condition, "no register is free for this comparison, since the script names r0 to r7: compute it before")
             one, operation, other = infix.groups()
@@ -254,7 +273,9 @@ class Lines:
         return [["skip", taken, 1], Jump(1, label)] if negated else [Jump(taken, label)]
 
 
-def meant(word):
+def meant(word: str) -> str:
     if word in ("set", "skip"):
         return {"set": "write 'r0 = r0 + 1'", "skip": "write 'if r0 goto LABEL'"}[word]
     return hints.meant(word, [*grammar.WORDS, "cancel", "goto"]) or hints.WORDS.get(word, "")
+
+

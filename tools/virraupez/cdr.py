@@ -1,9 +1,17 @@
 """Messages of ROS 2 as a bag has them: in CDR, by the definitions of their types."""
+from __future__ import annotations
+
 import math
 import re
 import struct
 
-from . import interfaces
+from . import TYPE_CHECKING, interfaces
+
+if TYPE_CHECKING:
+    from typing import Any, Dict, Iterator, List, Optional, Tuple
+
+    # A type, whether it is a list and how long, and the name.
+    Field = Tuple[str, Optional[str], str]
 
 # Types that consist of one number each.
 NUMBERS = {
@@ -41,21 +49,23 @@ class Unreadable(Exception):
 class Types:
     """Definitions of types, by their names without `msg/`, `srv/` or `action/`."""
 
-    def __init__(self):
+    known: Dict[str, List[Field]]
+
+    def __init__(self) -> None:
         self.texts, self.known = {**DEFINITIONS, **interfaces.ACTIONS}, {}
 
-    def add(self, name, text):
+    def add(self, name: str, text: str) -> None:
         """Adds the definition of a type. Those of the types that it names may follow it."""
         first, *rest = SECTION.split(text)
         self.texts[plain(name)] = first
         for at in range(0, len(rest), 2):
             self.texts[plain(rest[at].strip())] = rest[at + 1]
 
-    def add_missing(self, texts):
+    def add_missing(self, texts: Dict[str, str]) -> None:
         """Adds definitions of types that have none yet."""
         self.texts = {**texts, **self.texts}
 
-    def fields(self, name):
+    def fields(self, name: str) -> List[Field]:
         """The fields of a type: the type of each, whether it is a list and how long, and its name."""
         if name not in self.known:
             if name not in self.texts:
@@ -63,7 +73,7 @@ class Types:
             self.known[name] = list(self.parsed(name)) or [("uint8", None, EMPTY)]
         return self.known[name]
 
-    def parsed(self, name):
+    def parsed(self, name: str) -> Iterator[Field]:
         for line in self.texts[name].split("\n"):
             bare = line.split("#", 1)[0].strip()
             found = FIELD.match(bare)
@@ -71,28 +81,28 @@ class Types:
                 of, length, field = found.groups()
                 yield self.full(of, name), length, field
 
-    def full(self, of, owner):
+    def full(self, of: str, owner: str) -> str:
         """The whole name of a type that a definition names, which may be of the definition's own package."""
         if of in NUMBERS or of in ("string", "wstring"):
             return of
         return plain(of) if "/" in of else f"{owner.split('/')[0]}/{of}"
 
 
-def plain(name):
+def plain(name: str) -> str:
     return re.sub("/(?:msg|srv|action)/", "/", name)
 
 
 class Message:
     """A message that is read from its beginning on."""
 
-    def __init__(self, types, given):
+    def __init__(self, types: Types, given: object) -> None:
         if not isinstance(given, bytes):
             raise Unreadable("the bag has no bytes there")
         if given[:2] not in ORDERS:
             raise Unreadable(f"it begins with {given[:2].hex() or 'nothing'}, which is no plain CDR")
         self.types, self.order, self.given, self.at = types, ORDERS[given[:2]], memoryview(given)[4:], 0
 
-    def take(self, code, size, count=1):
+    def take(self, code: str, size: int, count: int = 1) -> Tuple[Any, ...]:
         """Numbers, each at a place that its size divides."""
         self.at += -self.at % size if count else 0
         try:
@@ -102,7 +112,7 @@ class Message:
         self.at += size * count
         return found
 
-    def value(self, of):
+    def value(self, of: str) -> Any:
         """A value of a type: an object is a dict."""
         if of in NUMBERS:
             return self.take(*NUMBERS[of])[0]
@@ -114,7 +124,7 @@ class Message:
             raise Unreadable("texts of wide characters aren't read")
         return {field: self.values(it, length) if length else self.value(it) for it, length, field in self.types.fields(of)}
 
-    def values(self, of, length):
+    def values(self, of: str, length: str) -> List[Any]:
         digits = length.strip("[]")
         count = int(digits) if digits.isdigit() else self.take("I", 4)[0]
         if of in NUMBERS:
@@ -127,7 +137,7 @@ class Message:
 STEP = re.compile(r"([A-Za-z_][A-Za-z0-9_]*)|\[([0-9]{1,9})\]")
 
 
-def taken(value, path):
+def taken(value: Any, path: str) -> float:
     """The number at a path as twist.linear.x, ranges[180], or ranges.min, which is the least that is a finite number."""
     for name, index in STEP.findall(path):
         if isinstance(value, list) and name in ("min", "max"):
@@ -143,3 +153,5 @@ def taken(value, path):
     if not isinstance(value, (int, float)):
         raise Unreadable(f"{path} is no number" + (f": there is {', '.join(value)}" if isinstance(value, dict) else ": [N], .min or .max takes one" if isinstance(value, list) else ""))
     return value
+
+

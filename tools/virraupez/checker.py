@@ -1,9 +1,18 @@
 """The check of a transcript by rules, line by line."""
+from __future__ import annotations
+
 import collections
 import re
 
-from . import pattern, transcript
+from . import TYPE_CHECKING, pattern, transcript
 from .event import Silence
+
+if TYPE_CHECKING:
+    from typing import Dict, List, Mapping, Sequence, Tuple
+
+    from .pattern import Pattern
+    from .rules import Rule
+    from .shapes import About, By, Now
 
 ROUND = "\nround "
 # How many lines are known at most.
@@ -17,7 +26,15 @@ OF_CALLBACKS = ("round", "run", "pending", "end")
 class Check:
     """Rules beside a transcript that is read by blocks of lines. Only lines that a pattern of a rule may match are looked at."""
 
-    def __init__(self, rules):
+    of_any: Dict[str, List[Rule]]
+    of_name: Dict[str, Dict[str, List[Rule]]]
+    known: Dict[Tuple[str, By], List[Tuple[Rule, About]]]
+    owners: Mapping[str, str]
+    now: Now
+    by: By
+    number: int
+
+    def __init__(self, rules: List[Rule]) -> None:
         self.rules = rules
         # The rules that lines of a first word may concern: of any name, and of each name that some pattern has.
         self.of_any = {word: [] for word in transcript.WORDS}
@@ -32,10 +49,10 @@ class Check:
         self.concerned = re.compile(f"\n{pattern.grouped(self.expressions()) if rules else '(?!)'}(?!\\S).*").finditer
         self.begin()
 
-    def patterns(self):
+    def patterns(self) -> List[Pattern]:
         return [of for rule in self.rules for it in rule.events for of in it.patterns]
 
-    def list_by_begins(self):
+    def list_by_begins(self) -> None:
         """Lists the rules by the first two words of the lines that may concern them."""
         for rule in self.rules:
             begins = set().union(*(it.begins() for it in rule.events))
@@ -50,7 +67,7 @@ class Check:
             for name, found in named.items():
                 named[name] = sorted(found + self.of_any[first], key=self.rules.index) if self.of_any[first] else found
 
-    def expressions(self):
+    def expressions(self) -> List[str]:
         """The regular expressions of the lines that are looked at."""
         found = collections.defaultdict(set)
         for of in self.patterns():
@@ -60,13 +77,13 @@ class Check:
         texts = ((word, pattern.grouped(it)) for word, it in found.items())
         return [text if text.count("|") < WORDS else word for word, text in texts]
 
-    def begin(self):
+    def begin(self) -> None:
         """Forgets all lines, so that another transcript may be taken."""
         self.now, self.by, self.number = (0, 0), (), 0
         for rule in self.rules:
             rule.begin()
 
-    def block(self, block):
+    def block(self, block: str) -> None:
         """Takes a block of whole lines."""
         text, number, at = "\n" + block, self.number, 0
         for found in self.concerned(text):
@@ -79,14 +96,14 @@ class Check:
         self.passed(text, at, len(text))
         self.number += block.count("\n")
 
-    def passed(self, text, begin, end):
+    def passed(self, text: str, begin: int, end: int) -> None:
         """Passes over a part of a text: the last round in it is now."""
         at = text.rfind(ROUND, begin, end)
         if at >= 0:
             _, number, moment = text[at + 1 : text.index("\n", at + 1)].split(" ")
             self.now = int(number), int(moment)
 
-    def line(self, number, line):
+    def line(self, number: int, line: str) -> None:
         if self.timed and line.startswith(ROUND[1:]):
             for rule in self.timed:
                 if rule.failure is None:
@@ -98,13 +115,13 @@ class Check:
             if rule.failure is None:
                 rule.line(number, line, about, self.now)
 
-    def whose(self, words):
+    def whose(self, words: Sequence[str]) -> By:
         """The names of the entity whose callback a line is of, and of its node; none of a line outside of callbacks."""
         if words[0] not in OF_CALLBACKS:
             return self.by
         return (words[1], self.owners.get(words[1])) if words[0] == "run" else ()
 
-    def read(self, line):
+    def read(self, line: str) -> List[Tuple[Rule, About]]:
         """Reads a line: the rules that it concerns, with what it says to them."""
         words = line.split(" ")
         if len(self.known) >= KNOWN:
@@ -114,7 +131,7 @@ class Check:
         self.known[line, self.by] = found
         return found
 
-    def end(self):
+    def end(self) -> None:
         for rule in self.rules:
             if rule.failure is None:
                 rule.end(self.number, self.now)

@@ -1,6 +1,14 @@
 """A graph of who talks to whom as SVG: a box for a node, with its callback groups, a rounded one for a topic, a service or an action, and an arrow for
 what goes from one to the other."""
-from . import layout, picture
+from __future__ import annotations
+
+from . import TYPE_CHECKING, layout, picture
+
+if TYPE_CHECKING:
+    from typing import Sequence
+
+    from .graph import Edge, Graph, Shape
+    from .shapes import Point
 
 STYLE = """
 .graph text { paint-order: stroke; stroke: #ffffff; stroke-width: 3px; } .graph .words { font-size: 9.5px; } .graph .name { font-weight: bold; }
@@ -11,7 +19,7 @@ STYLE = """
 FAMILIES = {"node": "time", "topic": "topic", "service": "service", "action": "action", "outside": "time"}
 
 
-def svg(graph, style=picture.STYLE + STYLE):
+def svg(graph: Graph, style: str = picture.STYLE + STYLE) -> str:
     """The SVG of a graph. A page has a style of its own, and gives none."""
     wide, high = layout.place(graph)
     wide, high = max(wide, 1), max(high, 1)
@@ -25,7 +33,7 @@ def svg(graph, style=picture.STYLE + STYLE):
     return "\n".join([*parts, "</svg>"]) + "\n"
 
 
-def drawn_shape(it):
+def drawn_shape(it: Shape) -> str:
     left, top = it.x - it.wide / 2, it.y - it.high / 2
     round_by = 2 if it.kind == "node" else min(it.high / 2, 14)
     dash = ' stroke-dasharray="3 3"' if it.kind == "outside" else ""
@@ -39,7 +47,7 @@ def drawn_shape(it):
     return "".join([*parts, "</g>"])
 
 
-def drawn_edge(it):
+def drawn_edge(it: Edge) -> str:
     family = FAMILIES[it.end.kind if it.end.kind != "node" else it.begin.kind]
     (x, y), *rest = it.path
     path = f"M{x:.1f},{y:.1f}" + "".join("C" + " ".join(f"{a:.1f},{b:.1f}" for a, b in rest[at : at + 3]) for at in range(0, len(rest), 3))
@@ -52,7 +60,7 @@ def drawn_edge(it):
     return "".join([*parts, "</g>"])
 
 
-def tip(path):
+def tip(path: Sequence[Point]) -> str:
     """The head of an arrow, along the last curve."""
     (x, y), before = path[-1], next((it for it in reversed(path) if it != path[-1]), path[-1])
     length = ((x - before[0]) ** 2 + (y - before[1]) ** 2) ** 0.5 or 1

@@ -1,6 +1,13 @@
 """The text of a document: its JSON as a person reads it, and in one line."""
+from __future__ import annotations
+
 import functools
 import json
+
+from . import TYPE_CHECKING
+
+if TYPE_CHECKING:
+    from typing import Any, Iterable, List, Tuple
 
 WIDTH = 120
 ENCODE = json.JSONEncoder(separators=(",", ":"), default=lambda _: None).encode
@@ -8,7 +15,7 @@ ENCODE = json.JSONEncoder(separators=(",", ":"), default=lambda _: None).encode
 QUOTED = functools.lru_cache(maxsize=4096)(ENCODE)
 
 
-def layout(value, indent=0):
+def layout(value: Any, indent: int = 0) -> str:
     """JSON that a person reads: what fits stands in one line."""
     if not isinstance(value, (list, dict)) or len(value) < WIDTH:
         flat = flat_text(value)
@@ -22,7 +29,7 @@ def layout(value, indent=0):
     return "[" + joined([(layout(part, indent + 1), True) for part in value], indent) + "]"
 
 
-def flat_text(value):
+def flat_text(value: Any) -> str:
     """A value in one line. An object of numbers and texts, as all that is fed, takes less than the encoder's time for it."""
     if type(value) is int:
         return str(value)
@@ -33,9 +40,10 @@ def flat_text(value):
     return ENCODE(value)
 
 
-def joined(parts, indent):
+def joined(parts: Iterable[Tuple[str, bool]], indent: int) -> str:
     """Parts with commas: each that is a list or an object begins a line, and others where a line is full."""
-    texts, width = [], 0
+    texts: List[str] = []
+    width = 0
     for part, begins in parts:
         if texts:
             texts.append(",")

@@ -2,12 +2,24 @@
 
 They go over a value that json_text has read, and over what it declares. A part of a wrong form counts as a fault of Shape, and
 as missing for all greater codes."""
+from __future__ import annotations
+
+import functools
 import itertools
 import json
 import re
 
 from . import grammar as g
-from . import repairs
+from . import TYPE_CHECKING, repairs
+
+if TYPE_CHECKING:
+    from typing import Any, Callable, Collection, Dict, Iterable, Iterator, List, Optional, Tuple, Union
+
+    from .declarations import Declared, Entity
+    from .shapes import Fields, Form, Key, Path
+
+    # What may help, as a text or as a function that gives it.
+    Hint = Union[str, Callable[[], str]]
 
 VALUE, NAME = "value", "name"
 
@@ -19,9 +31,30 @@ class Fault:
     form is that of the grammar's tables that is wanted. at says whether the value at the path is wrong, or its name; a missing
     field has the path of its object, and its name. kind is the name of a script's fault."""
 
+    code: int
+    path: Path
+    wanted: str
+    hint: Hint
+    names: Collection[str]
+    form: Optional[Form]
+    at: str
+    missing: Optional[str]
+    kind: Optional[str]
+
     __slots__ = ("code", "path", "wanted", "hint", "names", "form", "at", "missing", "kind")
 
-    def __init__(self, code, path, wanted, hint="", names=(), form=None, at=VALUE, missing=None, kind=None):
+    def __init__(
+        self,
+        code: int,
+        path: Path,
+        wanted: str,
+        hint: Hint = "",
+        names: Collection[str] = (),
+        form: Optional[Form] = None,
+        at: str = VALUE,
+        missing: Optional[str] = None,
+        kind: Optional[str] = None,
+    ) -> None:
         self.code, self.path, self.wanted, self.hint = code, path, wanted, hint
         self.names, self.form, self.at, self.missing, self.kind = names, form, at, missing, kind
 
@@ -41,39 +74,39 @@ WANTED = {
 }
 
 
-def wanted_of(form, path=()):
+def wanted_of(form: Form, path: Path = ()) -> str:
     if isinstance(form, list):
         if form == g.SCRIPT:
             return "a script: a list of instructions"
-        return "an instruction: a list" if form == ["word"] else f"a list of {plural(form[0]) if form[0] in g.OBJECTS or form[0] == 'entry' else LISTED[path[-1]]}"
+        return "an instruction: a list" if form == ["word"] else f"a list of {plural(form[0]) if isinstance(form[0], str) and form[0] in (*g.OBJECTS, 'entry') else LISTED[path[-1]]}"
     name = next((it for it in reversed(path) if isinstance(it, str)), "")
     return WANTED.get(name, g.SINGLE[form][1]) if form in g.SINGLE else f"{article(form)}: an object"
 
 
-LISTED = {"topics": "names", "moments": "moments, in ticks"}
+LISTED: Dict[Key, str] = {"topics": "names", "moments": "moments, in ticks"}
 
 
-def article(noun):
+def article(noun: str) -> str:
     return repairs.article(noun)
 
 
-def plural(noun):
+def plural(noun: str) -> str:
     return "entries" if noun == "entry" else f"{noun}s"
 
 
-def has(value, form):
+def has(value: object, form: Form) -> bool:
     """Whether a value is of a form, by its outermost part."""
     if isinstance(form, list):
         return isinstance(value, list)
     return g.SINGLE[form][0](value) if form in g.SINGLE else isinstance(value, dict)
 
 
-def misshapen(value, form, path, owner=None):
+def misshapen(value: Any, form: Form, path: Path, owner: Optional[str] = None) -> Fault:
     """The fault of a value of another form."""
     return Fault(2, path, wanted_of(form, path), lambda: repairs.of_value(value, form, path, owner), form=form)
 
 
-def shape(value, form, path=(), owner=None):
+def shape(value: Any, form: Form, path: Path = (), owner: Optional[str] = None) -> Iterator[Fault]:
     """Each fault of a value's form."""
     if not has(value, form):
         yield misshapen(value, form, path, owner)
@@ -89,7 +122,7 @@ def shape(value, form, path=(), owner=None):
         yield from object_shape(value, form, path)
 
 
-def list_shape(items, form, path):
+def list_shape(items: List[Any], form: Form, path: Path) -> Iterator[Fault]:
     if form == ["word"]:
         for at, item in enumerate(items):
             if not isinstance(item, list):
@@ -101,20 +134,20 @@ def list_shape(items, form, path):
         for at, item in enumerate(items):
             if not test(item):
                 place = path + (at,)
-                yield Fault(2, place, wanted, lambda item=item, place=place: repairs.of_value(item, form, place), form=form)
+                yield Fault(2, place, wanted, functools.partial(repairs.of_value, item, form, place), form=form)
     else:
         for at, item in enumerate(items):
             yield from shape(item, form, path + (at,))
 
 
-def instruction_shape(items, path):
+def instruction_shape(items: List[Any], path: Path) -> Iterator[Fault]:
     test, wanted = g.SINGLE["word"]
     for at, item in enumerate(items):
         if not test(item):
-            yield Fault(2, path + (at,), wanted, lambda at=at: repairs.of_word(items, at), form="word")
+            yield Fault(2, path + (at,), wanted, functools.partial(repairs.of_word, items, at), form="word")
 
 
-def object_shape(fields, form, path):
+def object_shape(fields: Fields, form: str, path: Path) -> Iterator[Fault]:
     forms = g.forms_in(form, fields)
     for name in g.REQUIRED[form]:
         if name not in fields:
@@ -127,7 +160,7 @@ def object_shape(fields, form, path):
             yield from shape(fields[name], of, path + (name,), form)
 
 
-def entry_shape(fields, path):
+def entry_shape(fields: Fields, path: Path) -> Iterator[Fault]:
     stand = [name for name in g.FED if name in fields]
     if len(stand) == 1:
         yield from object_shape(fields, g.FED[stand[0]], path)
@@ -142,7 +175,7 @@ def entry_shape(fields, path):
         yield misshapen(fields["round"], "count", path + ("round",), "message")
 
 
-def with_moment(fault, declared):
+def with_moment(fault: Fault, declared: Declared) -> Fault:
     """The fault of an entry without its round, with the round of the moment that the entry has."""
     if fault.missing == "round":
         fields = declared.entries.get(fault.path, {})
@@ -156,7 +189,7 @@ def with_moment(fault, declared):
 # ---- 4: names
 
 
-def names(declared):
+def names(declared: Declared) -> Iterator[Fault]:
     yield from distinct(((node.path + ("name",), node.name) for node in declared.nodes if node.name is not None), "a name that no other node has")
     for node in declared.nodes:
         groups = [(path + ("name",), group["name"]) for path, group in node.groups if g.is_text(group.get("name"))]
@@ -172,19 +205,23 @@ def names(declared):
             yield unknown(declared, 4, path + (field,), entry[field], kind)
 
 
-def distinct(named, wanted):
+def distinct(named: Iterable[Tuple[Path, str]], wanted: str) -> Iterator[Fault]:
     """Faults of names that are none, or that stood before."""
-    first = {}
+    first: Dict[str, Path] = {}
     for path, name in named:
         if not g.NAME.fullmatch(name):
-            yield Fault(4, path, "a name: 1 to 64 characters of A-Z a-z 0-9 _ /", hint=lambda name=name: name_hint(name))
+            yield Fault(4, path, "a name: 1 to 64 characters of A-Z a-z 0-9 _ /", hint=functools.partial(name_hint, name))
         elif name in first:
-            yield Fault(4, path, wanted, hint=lambda name=name: f"{name} stands at {path_text(first[name])} already")
+            yield Fault(4, path, wanted, hint=functools.partial(doubled_hint, name, first[name]))
         else:
             first[name] = path
 
 
-def name_hint(name):
+def doubled_hint(name: str, path: Path) -> str:
+    return f"{name} stands at {path_text(path)} already"
+
+
+def name_hint(name: str) -> str:
     if len(name) > 64:
         return f"it has {len(name)} characters"
     other = next((sign for sign in name if not g.NAME.fullmatch(sign)), None)
@@ -193,18 +230,20 @@ def name_hint(name):
     return f"write {json.dumps(re.sub('[^A-Za-z0-9_/]', '_', name))}: {other!r} isn't of these"
 
 
-def references(declared, entity):
+def references(declared: Declared, entity: Entity) -> Iterator[Fault]:
     if "group" in entity.fields and g.is_text(entity.fields["group"]) and entity.fields["group"] not in entity.node.kinds:
         none = f"the node {entity.node.name} has no `groups`; leave the field out for its default group"
         is_plain = declared.is_whole and not entity.node.kinds and entity.node.is_plain
         hint = none if is_plain else ""
         yield Fault(4, entity.path + ("group",), f"a named group of the node {entity.node.name}", hint, entity.node.kinds)
-    field, kind = g.REFERS.get(entity.kind, (None, None))
-    if entity.refers_to() is not None and entity.refers_to() not in declared.named[kind]:
-        yield unknown(declared, 4, entity.path + (field,), entity.refers_to(), kind)
+    name = entity.refers_to()
+    if name is not None:
+        field, kind = g.REFERS[entity.kind]
+        if name not in declared.named[kind]:
+            yield unknown(declared, 4, entity.path + (field,), name, kind)
 
 
-def unknown(declared, code, path, name, kind, among=None, owner=""):
+def unknown(declared: Declared, code: int, path: Path, name: str, kind: str, among: Optional[Collection[str]] = None, owner: str = "") -> Fault:
     """The fault of a name that nothing of a kind has."""
     among = declared.named[kind] if among is None else among
     what = declared.what(name)
@@ -216,18 +255,19 @@ def unknown(declared, code, path, name, kind, among=None, owner=""):
 # ---- 5: limits
 
 
-def limits(declared):
-    counts = (
-        (declared.nodes, lambda it: it.path, g.NODES, "nodes"),
-        (declared.topics, lambda it: ("topics", it[0]), g.TOPICS, "topics"),
-        (declared.entities, lambda it: it.path, g.ENTITIES_AT_MOST, "entities in the document"),
-        ([path for node in declared.nodes for path, _ in node.groups], lambda it: it, g.GROUPS, "groups in the document"),
-        (declared.moments, lambda it: ("moments", it[0]), g.MOMENTS, "moments"),
-        (declared.feed, lambda it: it[0], g.ENTRIES, "entries"),
+def limits(declared: Declared) -> Iterator[Fault]:
+    groups = [path for node in declared.nodes for path, _ in node.groups]
+    counts: Tuple[Tuple[int, int, Callable[[], Path], str], ...] = (
+        (len(declared.nodes), g.NODES, lambda: declared.nodes[g.NODES].path, "nodes"),
+        (len(declared.topics), g.TOPICS, lambda: ("topics", declared.topics[g.TOPICS][0]), "topics"),
+        (len(declared.entities), g.ENTITIES_AT_MOST, lambda: declared.entities[g.ENTITIES_AT_MOST].path, "entities in the document"),
+        (len(groups), g.GROUPS, lambda: groups[g.GROUPS], "groups in the document"),
+        (len(declared.moments), g.MOMENTS, lambda: ("moments", declared.moments[g.MOMENTS][0]), "moments"),
+        (len(declared.feed), g.ENTRIES, lambda: declared.feed[g.ENTRIES][0], "entries"),
     )
-    for items, path, most, noun in counts:
-        if len(items) > most:
-            yield Fault(5, path(items[most]), f"at most {most} {noun}", f"there are {len(items)}")
+    for count, most, path_of, noun in counts:
+        if count > most:
+            yield Fault(5, path_of(), f"at most {most} {noun}", f"there are {count}")
     for at, moment in declared.moments:
         if moment > g.LATEST:
             yield beyond(("moments", at), f"a moment of at most {g.LATEST}")
@@ -238,11 +278,11 @@ def limits(declared):
         yield from entity_limits(entity)
 
 
-def beyond(path, wanted, hint="2^62 ticks are the most"):
+def beyond(path: Path, wanted: str, hint: str = "2^62 ticks are the most") -> Fault:
     return Fault(5, path, wanted, hint)
 
 
-def entity_limits(entity):
+def entity_limits(entity: Entity) -> Iterator[Fault]:
     if entity.kind == "timers" and not 1 <= entity.field("period", "count", 1) <= g.LATEST:
         yield beyond(entity.path + ("period",), f"a period of 1 to {g.LATEST} ticks", "")
     if entity.kind != "timers" and not 1 <= entity.field("depth", "count", 1) <= g.DEPTH:
@@ -258,12 +298,12 @@ def entity_limits(entity):
 # ---- 3, 8 and 9: the version, the clock, identifiers
 
 
-def version(declared):
+def version(declared: Declared) -> Iterator[Fault]:
     if g.is_count(declared.version) and declared.version not in g.VERSIONS:
         yield Fault(3, ("version",), WANTED["version"], repairs.write(repairs.version_with(declared.order)))
 
 
-def clock(declared):
+def clock(declared: Declared) -> Iterator[Fault]:
     before = 0
     for at, moment in declared.moments:
         if moment < before:
@@ -272,10 +312,10 @@ def clock(declared):
     wanted = f"a round from 1 to {declared.rounds}, the number of moments" if declared.rounds else "no entry: there are no moments, and so no rounds"
     for path, entry in declared.feed:
         if g.is_count(entry.get("round")) and not 1 <= entry["round"] <= declared.rounds:
-            yield Fault(8, path + ("round",), wanted, lambda entry=entry: round_hint(entry["round"], declared))
+            yield Fault(8, path + ("round",), wanted, functools.partial(round_hint, entry["round"], declared))
 
 
-def round_hint(number, declared):
+def round_hint(number: int, declared: Declared) -> str:
     """A hint for a number that no round has: it may be a moment."""
     if number == 0:
         return "rounds are counted from 1" if declared.rounds else ""
@@ -283,7 +323,7 @@ def round_hint(number, declared):
     return f"write {found}, since {says}" if found else ""
 
 
-def identifiers(declared):
+def identifiers(declared: Declared) -> Iterator[Fault]:
     for path, entry in declared.feed:
         field = "goal" if "goal" in entry else "cancel"
         if "topic" in entry or not g.is_text(entry.get(field)):
@@ -295,7 +335,7 @@ def identifiers(declared):
             yield Fault(9, path + (field,), "an identifier that isn't zeros alone", "zeros alone name no goal")
 
 
-def identifier_hint(text):
+def identifier_hint(text: str) -> str:
     bare = text.strip("{}").replace("-", "")
     if re.fullmatch("[0-9a-fA-F]{1,16}", text):
         return f'write "{g.hyphenated(int(text, 16))}"'
@@ -310,7 +350,7 @@ def identifier_hint(text):
 # ---- paths
 
 
-def path_text(path):
+def path_text(path: Path) -> str:
     """A path as a person reads it."""
     text = ""
     for key in path:

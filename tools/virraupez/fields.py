@@ -1,5 +1,17 @@
 """The fields of transcript lines by their names: each line as an object, with its round, its moment and its callback."""
-from . import flow, transcript
+from __future__ import annotations
+
+from . import TYPE_CHECKING, flow, grammar, transcript
+
+if TYPE_CHECKING:
+    from typing import Dict, Iterator, Optional, Tuple
+
+    from .fit import Own
+    from .flow import Flow, Origin
+    from .shapes import Document, Fields
+
+    # A node, and a callback group of it.
+    Owner = Tuple[str, Optional[str]]
 
 # The names of a line's words after its first. All are numbers but those of TEXTS.
 NAMES = {
@@ -30,13 +42,17 @@ OUTSIDE = ("round", "expire", "pending", "end")
 class Place:
     """Where in a run one is: the round and the moment, the line of the callback that runs, and what that took."""
 
-    def __init__(self, document=None):
+    callback: Optional[int]
+    flow: Optional[Flow]
+    owners: Dict[str, Owner]
+
+    def __init__(self, document: Optional[Document] = None) -> None:
         self.round, self.moment, self.callback = 0, 0, None
         self.flow, self.owners = None, {}
         if document is not None:
             self.flow, self.owners = flow.Flow(document), owners(document)
 
-    def take(self, number, line):
+    def take(self, number: int, line: str) -> Fields:
         """Takes a line, and gives its object."""
         words = line.split(" ")
         if self.flow:
@@ -55,11 +71,11 @@ class Place:
         if words[1] in self.owners and words[0] not in ("round", "end"):
             made["node"], made["group"] = self.owners[words[1]]
         if self.flow and words[0] == "run":
-            made.update(taken(self.flow.run.cause))
+            made.update(taken(self.flow.run.cause if self.flow.run else None))
         return made
 
 
-def taken(cause):
+def taken(cause: Optional[Origin]) -> Fields:
     """What a callback took: the line that sent it, or what was fed."""
     if cause is None:
         return {}
@@ -67,17 +83,19 @@ def taken(cause):
     return {"fed": cause.text[5:]} if fed else {"took": cause.line}
 
 
-def owners(document):
+def owners(document: Document) -> Dict[str, Owner]:
     """The node and the callback group of each entity; the default group has no name."""
-    found = {}
+    found: Dict[str, Owner] = {}
     for node in document.get("nodes", []):
-        for kind in flow.grammar.ENTITIES:
+        for kind in grammar.ENTITIES:
             found.update((it["name"], (node["name"], it.get("group"))) for it in node.get(kind, []))
     return found
 
 
-def objects(name, own, document):
+def objects(name: str, own: Optional[Own], document: Optional[Document]) -> Iterator[Fields]:
     """The lines of a transcript as objects."""
     place = Place(document)
     for number, line in enumerate(transcript.lines(name, own), 1):
         yield place.take(number, line)
+
+

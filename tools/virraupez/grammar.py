@@ -1,5 +1,15 @@
 """The grammar of documents, as the tables of docs/document.md have it: objects with their fields, instructions, limits, codes."""
+from __future__ import annotations
+
 import re
+
+from . import TYPE_CHECKING
+
+if TYPE_CHECKING:
+    from typing import Callable, Dict, List, Optional, Tuple
+    from typing_extensions import TypeGuard
+
+    from .shapes import Document, Fields, Form, Instruction
 
 MOST_BYTES = 16777216
 VERSIONS, ORDERS = (1, 2), ("kind", "arrival")
@@ -21,37 +31,37 @@ CODES = {
 # ---- objects
 
 
-def is_count(value):
+def is_count(value: object) -> TypeGuard[int]:
     return type(value) is int and value >= 0
 
 
-def is_value(value):
+def is_value(value: object) -> TypeGuard[int]:
     return type(value) is int and value < 2**63
 
 
-def is_text(value):
+def is_text(value: object) -> TypeGuard[str]:
     return isinstance(value, str)
 
 
-def is_number(text):
+def is_number(text: str) -> bool:
     """Whether a text is a number in decimal digits, of no more than 64 bits need. isdigit alone takes ² too, which int doesn't
     read, and int reads no text of thousands of digits."""
     return text.isascii() and text.isdigit() and len(text) <= 20
 
 
-def is_kind(value):
+def is_kind(value: object) -> bool:
     return value in ("exclusive", "reentrant") if is_text(value) else False
 
 
-def is_order(value):
+def is_order(value: object) -> bool:
     return value in ORDERS if is_text(value) else False
 
 
-def is_word(value):
+def is_word(value: object) -> bool:
     return isinstance(value, str) or is_value(value)
 
 
-def is_instruction(value):
+def is_instruction(value: object) -> bool:
     if not isinstance(value, list):
         return False
     # A list of millions of numbers is asked of as a whole.
@@ -60,7 +70,7 @@ def is_instruction(value):
 
 
 # Forms of single values: the test, and how a person reads what is wanted.
-SINGLE = {
+SINGLE: Dict[str, Tuple[Callable[[object], bool], str]] = {
     "count": (is_count, "an integer from 0 to 18446744073709551615"),
     "value": (is_value, "an integer from -9223372036854775808 to 9223372036854775807"),
     "text": (is_text, "a text in double quotes"),
@@ -68,10 +78,10 @@ SINGLE = {
     "order": (is_order, '"kind" or "arrival"'),
     "word": (is_word, "a text or an integer of 64 bits"),
 }
-SCRIPT = [["word"]]
-ENTITY = {"name": "text", "group": "text"}
+SCRIPT: List[Form] = [["word"]]
+ENTITY: Dict[str, Form] = {"name": "text", "group": "text"}
 # Each object's fields with their forms: one of SINGLE, another object, or a list of one.
-OBJECTS = {
+OBJECTS: Dict[str, Dict[str, Form]] = {
     "document": {"version": "count", "order": "order", "topics": ["text"], "nodes": ["node"], "moments": ["count"], "feed": ["entry"]},
     "node": {
         "name": "text",
@@ -102,7 +112,7 @@ OBJECTS = {
     "goal request": {"round": "count", "action": "text", "goal": "text", "value": "value"},
     "cancel request": {"round": "count", "action": "text", "cancel": "text", "stamp": "count"},
 }
-REQUIRED = {
+REQUIRED: Dict[str, Tuple[str, ...]] = {
     "document": ("version",),
     "node": ("name",),
     "group": ("name", "kind"),
@@ -144,14 +154,14 @@ SCRIPTS = {
 REFERS = {"subscriptions": ("topic", "topics"), "clients": ("service", "services"), "action_clients": ("action", "actions")}
 
 
-def forms_in(owner, fields):
+def forms_in(owner: str, fields: Fields) -> Dict[str, Form]:
     """The fields that an object may have, with their forms: those of a document by its version."""
     if owner != "document":
         return OBJECTS[owner]
     return {name: form for name, form in OBJECTS[owner].items() if name not in SINCE or fields.get("version") == SINCE[name]}
 
 
-def order_of(document):
+def order_of(document: Document) -> str:
     """The order of ready callbacks that a lawful document says."""
     return document.get("order", ORDERS[0]) if document["version"] == SINCE["order"] else ORDERS[0]
 
@@ -200,18 +210,18 @@ HYPHENATED = f"{DIGIT}{{8}}-{DIGIT}{{4}}-{DIGIT}{{4}}-{DIGIT}{{4}}-{DIGIT}{{12}}
 IDENTIFIER = re.compile(f"{DIGIT}{{32}}|{HYPHENATED}|{{{HYPHENATED}}}|[Uu][Rr][Nn]:[Uu][Uu][Ii][Dd]:{HYPHENATED}")
 
 
-def identifier(text):
+def identifier(text: str) -> int:
     """The number of an identifier's text."""
     return int(re.sub("^urn:uuid:|[{}-]", "", text, flags=re.I), 16)
 
 
-def hyphenated(number):
+def hyphenated(number: int) -> str:
     """An identifier as a transcript has it."""
     text = f"{number:032x}"
     return f"{text[:8]}-{text[8:12]}-{text[12:16]}-{text[16:20]}-{text[20:]}"
 
 
-def forms_of(instruction):
+def forms_of(instruction: Instruction) -> Optional[Tuple[str, Instruction]]:
     """The forms of an instruction's items, and the items; None where its word is none or it has another number of items."""
     word, items = instruction[0] if instruction else None, instruction[1:]
     if word == "cancel":

@@ -1,12 +1,20 @@
 """What may help where something is wrong: the nearest of some names, what users of other systems call a thing, and how a
 value of another form is written."""
+from __future__ import annotations
+
 import difflib
 
 from . import grammar as g
-from . import json_text
+from . import TYPE_CHECKING, json_text
+
+if TYPE_CHECKING:
+    from typing import Dict, Iterable, Optional, Tuple
+
+    from .faults import Fault
+    from .shapes import Form
 
 # What is often written, with the fields that this grammar has for it.
-FIELDS = {
+FIELDS: Dict[str, Tuple[str, ...]] = {
     **dict.fromkeys(("callback", "on_timer", "on_message", "on_request", "execute", "instructions", "code"), ("script",)),
     **dict.fromkeys(("handle_goal", "goal_callback", "on_goal_request"), ("on_goal",)),
     **dict.fromkeys(("handle_cancel", "cancel_callback", "on_cancel_request"), ("on_cancel",)),
@@ -89,14 +97,14 @@ class Left:
     characters = CHARACTERS
 
     @staticmethod
-    def begin():
+    def begin() -> None:
         """Begins the work on a document."""
         Left.characters = CHARACTERS
 
 
-def nearest(word, names, least=0.6):
+def nearest(word: str, names: Iterable[str], least: float = 0.6) -> Optional[str]:
     """The name that is nearest to a word, or None if none is near or too much was compared."""
-    among = {}
+    among: Dict[str, str] = {}
     for name in names:
         if len(among) == NAMES or Left.characters <= 0:
             break
@@ -106,7 +114,7 @@ def nearest(word, names, least=0.6):
     return among[found[0]] if found else None
 
 
-def meant(word, names):
+def meant(word: str, names: Iterable[str]) -> str:
     """A hint for a word that is none of some names."""
     near = nearest(word, names)
     return f"did you mean {near}?" if near is not None else ""
@@ -115,12 +123,12 @@ def meant(word, names):
 # ---- of a fault
 
 
-def hint(fault, stands):
+def hint(fault: Fault, stands: str) -> str:
     """A hint for a fault, by what stands at its place."""
     own = fault.hint() if callable(fault.hint) else fault.hint
     word = stands.strip('"')
     if own or fault.missing:
-        near = "" if own or not fault.code else nearest(fault.missing, fault.names)
+        near = nearest(fault.missing, fault.names) if fault.missing and fault.code and not own else None
         return f"rename `{near}` to `{fault.missing}`" if near else own
     if fault.kind == "Instruction" and word.lower() in WORDS:
         return f"{WORDS[word.lower()]} stands for it here"
@@ -131,7 +139,7 @@ def hint(fault, stands):
     return meant(word if fault.at == "value" else str(fault.path[-1]), fault.names) if fault.names else ""
 
 
-def of_form(fault, stands, bare):
+def of_form(fault: Fault, stands: str, bare: str) -> str:
     """A hint for a number in quotes, one that isn't whole, and what stands in place of a text."""
     is_number = fault.form in ("count", "value", "word")
     if isinstance(fault.form, str) and fault.form in TEXTS and stands[:1] == '"':
@@ -144,7 +152,7 @@ def of_form(fault, stands, bare):
     return of_fraction(float(bare)) if is_number and number and number.end() == len(bare) else ""
 
 
-def of_integer(stands, bare, is_number, form):
+def of_integer(stands: str, bare: str, is_number: bool, form: Optional[Form]) -> str:
     if stands != bare:
         return f"write {bare} without quotes" if is_number else ""
     if form == "text":
@@ -152,7 +160,7 @@ def of_integer(stands, bare, is_number, form):
     return "" if not is_number else "write 0" if bare == "-0" else "numbers end at 64 bits" if len(bare) > 18 else ""
 
 
-def of_fraction(number):
+def of_fraction(number: float) -> str:
     if number == int(number) and abs(number) < 2**53:
         return f"write {int(number)}"
     return "numbers are integers: choose a smaller unit for the tick, or for the value"

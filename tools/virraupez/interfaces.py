@@ -1,14 +1,19 @@
 """Definitions of types in files of ROS 2: NAME.msg, NAME.srv and NAME.action in the folders of their packages."""
+from __future__ import annotations
+
 import pathlib
 
-from . import command
+from . import TYPE_CHECKING, command
+
+if TYPE_CHECKING:
+    from typing import Dict, List
 
 UUID = "unique_identifier_msgs/UUID goal_id"
 # The parts of a service and of an action, in the order of their files.
 PARTS = {".msg": ("",), ".srv": ("_Request", "_Response"), ".action": ("_Goal", "_Result", "_Feedback")}
 
 
-def event(name):
+def event(name: str) -> str:
     """The type of what introspection says of a service."""
     return f"service_msgs/ServiceEventInfo info\n{name}_Request[<=1] request\n{name}_Response[<=1] response"
 
@@ -26,7 +31,7 @@ ACTIONS = {
 }
 
 
-def definitions(folder):
+def definitions(folder: str) -> Dict[str, str]:
     """The definitions in a folder and the folders below it, by the names of types."""
     if not pathlib.Path(folder).is_dir():
         raise command.Trouble(f"{command.printable(folder)}: no folder of message definitions")
@@ -37,7 +42,7 @@ def definitions(folder):
     return found
 
 
-def of_file(path):
+def of_file(path: pathlib.Path) -> Dict[str, str]:
     """The types that a file defines. Its package is the folder above msg, srv or action."""
     above = path.parent
     name = f"{(above.parent if above.name in ('msg', 'srv', 'action') else above).name}/{path.stem}"
@@ -53,9 +58,9 @@ def of_file(path):
     return found
 
 
-def parts_of(text):
+def parts_of(text: str) -> List[str]:
     """The parts of a file, between lines of three dashes."""
-    parts = [[]]
+    parts: List[List[str]] = [[]]
     for line in text.split("\n"):
         if line.strip() == "---":
             parts.append([])

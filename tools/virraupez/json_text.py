@@ -3,14 +3,34 @@
 read(text) gives the value of a text. Objects are dicts, and a Doubled one where a name stands twice in it; a number that is
 no integer of 64 bits is FRACTION, since nobody asks which. places(text, paths) tells where values of a text stand that was
 read. Offsets count characters. Reading takes time in proportion to the text, and nesting is bounded before it is followed."""
+from __future__ import annotations
+
 import re
 
-from . import ticks
+from . import TYPE_CHECKING, ticks
+
+if TYPE_CHECKING:
+    from typing import Any, Callable, Dict, Iterable, List, Match, Optional, Set, Tuple, Union
+
+    from .shapes import Key, Path
+
+    # The paths that are looked for, by their first keys.
+    Tree = Dict[Key, "Tree"]
+    Object = Dict[str, Any]
+else:
+    Object = dict
+
+
+def known(find: Any) -> Callable[..., Match[str]]:
+    """What finds a pattern where it is known to be, so that it never gives None."""
+    found: Callable[..., Match[str]] = find
+    return found
+
 
 LEVELS = 127
-WHITE = re.compile(r"[ \t\n\r]*").match
+WHITE = known(re.compile(r"[ \t\n\r]*").match)
 PLAIN = re.compile(r'"([^"\\\x00-\x1f]*)"').match
-CHUNK = re.compile(r'[^"\\\x00-\x1f]*').match
+CHUNK = known(re.compile(r'[^"\\\x00-\x1f]*').match)
 INTEGER = re.compile(r"(-?(?:0|[1-9][0-9]*))(?![0-9.eE])").match
 DECIMAL = re.compile(r"-?(?:0|[1-9][0-9]*)(?:\.[0-9]+)?(?:[eE][+-]?[0-9]+)?(?![0-9.eE])").match
 # Integers of a list with their commas. Lists of millions are read by thousands.
@@ -28,7 +48,9 @@ END = "\0"
 class NotJson(Exception):
     """The place at which a text is no JSON, the path of the value that was read there, and what is wanted."""
 
-    def __init__(self, at, wanted, hint=""):
+    path: List[Key]
+
+    def __init__(self, at: int, wanted: str, hint: str = "") -> None:
         super().__init__(wanted)
         self.at, self.wanted, self.hint, self.path = at, wanted, hint, []
 
@@ -37,10 +59,12 @@ class Fraction:
     """A number that is neither a count nor a value."""
 
 
-class Doubled(dict):
+class Doubled(Object):
     """An object in which names stand twice or more, of each of which the last counts."""
 
-    def __init__(self, fields):
+    twice: Set[str]
+
+    def __init__(self, fields: Dict[str, Any]) -> None:
         super().__init__(fields)
         self.twice = set()
 
@@ -52,17 +76,17 @@ FRACTION = Fraction()
 
 
 class Reader:
-    def __init__(self, text):
+    def __init__(self, text: str) -> None:
         self.text, self.length = text + END, len(text)
 
-    def document(self):
+    def document(self) -> Any:
         value, at = self.value(WHITE(self.text).end(), 0)
         at = WHITE(self.text, at).end()
         if at != self.length:
             raise NotJson(at, "nothing behind the document", "a document is one JSON value")
         return value
 
-    def value(self, at, depth):
+    def value(self, at: int, depth: int) -> Tuple[Any, int]:
         """The value that begins at a place, and where it ends."""
         sign = self.text[at]
         if sign == '"':
@@ -80,8 +104,9 @@ class Reader:
             return value, at + len(word)
         return FRACTION, self.decimal(at)
 
-    def list(self, at, depth):
-        text, items, begin = self.text, [], at - 1
+    def list(self, at: int, depth: int) -> Tuple[List[Any], int]:
+        text, begin = self.text, at - 1
+        items: List[Any] = []
         at = WHITE(text, at).end()
         if text[at] == "]":
             return items, at + 1
@@ -104,8 +129,9 @@ class Reader:
                 return items, at + 1
             at = self.behind_comma(at, "]", "item", begin)
 
-    def object(self, at, depth):
-        text, fields, begin = self.text, {}, at - 1
+    def object(self, at: int, depth: int) -> Tuple[Dict[str, Any], int]:
+        text, begin = self.text, at - 1
+        fields: Dict[str, Any] = {}
         at = WHITE(text, at).end()
         if text[at] == "}":
             return fields, at + 1
@@ -126,19 +152,19 @@ class Reader:
                 return fields, at + 1
             at = self.behind_comma(at, "}", "field", begin)
 
-    def behind_comma(self, at, close, part, begin):
+    def behind_comma(self, at: int, close: str, part: str, begin: int) -> int:
         """Where the next part of a list or an object begins, whose comma is wanted at a place."""
         if self.text[at] != ",":
             raise self.unended(at, close, begin)
         return self.not_closed(WHITE(self.text, at + 1).end(), close, part)
 
-    def not_closed(self, at, close, part):
+    def not_closed(self, at: int, close: str, part: str) -> int:
         """The place behind a comma, at which a list or an object doesn't end."""
         if self.text[at] == close:
             raise NotJson(at, f"another {part} behind the comma", f"leave out the comma before {close}")
         return at
 
-    def name(self, at):
+    def name(self, at: int) -> Tuple[str, int]:
         """The name of a field, and where its value begins."""
         text = self.text
         if text[at] != '"':
@@ -152,7 +178,7 @@ class Reader:
             raise NotJson(at, f"a colon behind the name {name!r}")
         return name, WHITE(text, at + 1).end()
 
-    def string(self, at):
+    def string(self, at: int) -> Tuple[str, int]:
         """The text behind a quote, and where it ends."""
         text, parts, begin = self.text, [], at
         while True:
@@ -169,7 +195,7 @@ class Reader:
             else:
                 raise NotJson(at, "a text on one line, without control characters", r"write \n for a line feed, \t for a tab")
 
-    def escape(self, at):
+    def escape(self, at: int) -> Tuple[str, int]:
         """What a backslash says, and where that ends."""
         sign = self.text[at + 1]
         if sign in ESCAPES:
@@ -185,13 +211,13 @@ class Reader:
                 return chr(0x10000 + ((number - 0xD800) << 10) + (low - 0xDC00)), at + 12
         raise NotJson(at, "both halves of a surrogate pair", "write the character itself")
 
-    def unit(self, at):
+    def unit(self, at: int) -> int:
         digits = HEXADECIMAL(self.text, at + 2)
         if not digits:
             raise NotJson(at, r"four hexadecimal digits behind \u")
         return int(digits.group(), 16)
 
-    def decimal(self, at):
+    def decimal(self, at: int) -> int:
         """Where a number ends that is no integer."""
         number = DECIMAL(self.text, at)
         if not number:
@@ -202,7 +228,7 @@ class Reader:
 
     # ---- what is wrong
 
-    def no_value(self, at):
+    def no_value(self, at: int) -> NotJson:
         """The fault of a place where a value is wanted and none stands."""
         if at == self.length:
             return NotJson(at, "a value" if self.length else "a document", "the text ends too early")
@@ -213,20 +239,20 @@ class Reader:
                 return NotJson(at, "a value", found.expand(hint))
         return NotJson(at, "a value: an object, a list, a text in double quotes, a number, true, false or null")
 
-    def unended(self, at, close, begin):
+    def unended(self, at: int, close: str, begin: int) -> NotJson:
         """The fault of a list or an object that neither goes on nor ends."""
         if at == self.length:
             line, column = line_column(self.text, begin)
             return NotJson(at, f"a comma or {close}", f"the {self.text[begin]} at {line}:{column} isn't closed")
-        begin = NUMBER_BEFORE(self.text[max(at - 40, 0) : at])
-        if begin and WORD(self.text, at):
-            return self.no_number(at - len(begin.group()))
+        digits = NUMBER_BEFORE(self.text[max(at - 40, 0) : at])
+        if digits and WORD(self.text, at):
+            return self.no_number(at - len(digits.group()))
         hint = "a comma is missing" if re.match(r'["\w\[{-]', self.text[at]) else ""
         return NotJson(at, f"a comma or {close}", "JSON has no comments" if self.text[at] in "/#" else hint)
 
-    def no_number(self, at):
+    def no_number(self, at: int) -> NotJson:
         """The fault of digits with letters behind them."""
-        word = re.compile(r"-?\w+").match(self.text, at).group()
+        word: str = known(re.compile(r"-?\w+").match)(self.text, at).group()
         number = numbered(word)
         hint = f"write {number}, in decimal digits" if number is not None else "a text stands in double quotes"
         unit = re.fullmatch("(-?(?:0|[1-9][0-9]{0,17}))([a-zA-Z]+)", word)
@@ -257,7 +283,7 @@ HINTS = (
 )
 
 
-def numbered(word):
+def numbered(word: str) -> Optional[int]:
     """The number that a word of another language is, as 0x32 and 1_000 are, or None."""
     try:
         return int(word, 0) if re.fullmatch("-?(0[xX][0-9a-fA-F_]+|0[oO][0-7_]+|0[bB][01_]+|[1-9][0-9_]*)", word) else None
@@ -265,7 +291,7 @@ def numbered(word):
         return None
 
 
-def integer(whole, at):
+def integer(whole: Match[str], at: int) -> Union[int, Fraction]:
     """An integer of 64 bits, or a number that is in the range of a float."""
     digits = whole.group(1)
     if len(digits) < 19:
@@ -277,23 +303,23 @@ def integer(whole, at):
     return FRACTION
 
 
-def read(text):
+def read(text: str) -> Any:
     return Reader(text).document()
 
 
-def line_column(text, at):
+def line_column(text: str, at: int) -> Tuple[int, int]:
     """The line and the column of an offset, both from 1."""
     return text.count("\n", 0, at) + 1, at - text.rfind("\n", 0, at)
 
 
 # ---- places
 
-QUOTE = re.compile(r'[^"\\]*["\\]').match
-MARK = re.compile(r'"(?:[^"\\]*")?|[\[\]{}]').search
-SCALAR = re.compile(r"[^,\]} \t\n\r]*").match
+QUOTE = known(re.compile(r'[^"\\]*["\\]').match)
+MARK = known(re.compile(r'"(?:[^"\\]*")?|[\[\]{}]').search)
+SCALAR = known(re.compile(r"[^,\]} \t\n\r]*").match)
 
 
-def string_end(text, at):
+def string_end(text: str, at: int) -> int:
     """Where a text ends whose first quote stands at a place."""
     while True:
         at = QUOTE(text, at + 1).end()
@@ -301,7 +327,7 @@ def string_end(text, at):
             return at
 
 
-def skip(text, at):
+def skip(text: str, at: int) -> int:
     """Where a value ends that begins at a place."""
     if text[at] == '"':
         return string_end(text, at)
@@ -322,23 +348,24 @@ def skip(text, at):
 class Place:
     """Where a value stands: the offset of its name in an object, or its own in a list, and those of its begin and its end."""
 
-    def __init__(self, name, begin, end):
+    def __init__(self, name: int, begin: int, end: int) -> None:
         self.name, self.begin, self.end = name, begin, end
 
 
-def places(text, paths):
+def places(text: str, paths: Iterable[Path]) -> Dict[Path, Place]:
     """The place of each of some paths of a text that was read."""
-    tree = {}
+    tree: Tree = {}
     for path in paths:
         branch = tree
         for key in path:
             branch = branch.setdefault(key, {})
-    found, begin = {}, WHITE(text).end()
+    found: Dict[Path, Place] = {}
+    begin = WHITE(text).end()
     found[()] = Place(begin, begin, follow(text, begin, tree, (), found))
     return found
 
 
-def follow(text, at, tree, path, found):
+def follow(text: str, at: int, tree: Tree, path: Path, found: Dict[Path, Place]) -> int:
     """Where a value ends; the places of the paths in it, which a tree holds, are noted."""
     if not tree or text[at] not in "[{":
         return skip(text, at)
@@ -346,10 +373,11 @@ def follow(text, at, tree, path, found):
     while text[at] not in "]}":
         run = RUN(text, at) if in_list else None
         count = text.count(",", at, run.end()) if run else 0
-        if run and not any(index <= key < index + count for key in tree):
+        if run and not any(isinstance(key, int) and index <= key < index + count for key in tree):
             at, index = run.end(), index + count
             continue
-        name, key = at, index
+        name = at
+        key: Key = index
         if not in_list:
             end = string_end(text, at)
             key = Reader(text[at:end]).string(1)[0]
@@ -363,3 +391,5 @@ def follow(text, at, tree, path, found):
         if text[at] == ",":
             at = WHITE(text, at + 1).end()
     return at + 1
+
+

@@ -1,8 +1,16 @@
 """A language server for documents: what explain finds of a document at its places while one writes, and what the schema says of the
 field at the pointer. It speaks the Language Server Protocol 3.17 over two streams; its places count UTF-16 units from 0."""
+from __future__ import annotations
+
 import json
 
-from . import report, schema
+from . import TYPE_CHECKING, report, schema
+
+if TYPE_CHECKING:
+    from typing import Any, BinaryIO, Callable, Dict, Iterator, List, Optional
+
+    from .command import Output
+    from .shapes import Fields
 
 ERROR, WARNING = 1, 2
 FULL_TEXTS, NO_METHOD, NO_JSON = 1, -32601, -32700
@@ -11,17 +19,19 @@ FULL_TEXTS, NO_METHOD, NO_JSON = 1, -32601, -32700
 class Server:
     """The server, with the texts of the documents that are open by their names."""
 
-    def __init__(self, stream, out):
+    texts: Dict[str, str]
+
+    def __init__(self, stream: BinaryIO, out: Output) -> None:
         self.stream, self.out, self.texts = stream, out, {}
         self.is_over = False
 
-    def serve(self):
+    def serve(self) -> bool:
         """Answers until it is told to end. Whether it was told before that to shut down, as it should be."""
         while True:
             asked = self.receive()
             if asked is None or asked.get("method") == "exit":
                 return self.is_over
-            answer = ANSWERS.get(asked.get("method"))
+            answer = ANSWERS.get(asked.get("method", ""))
             if answer:
                 answered = answer(self, asked.get("params") or {})
                 if "id" in asked:
@@ -31,7 +41,7 @@ class Server:
 
     # ---- messages
 
-    def receive(self):
+    def receive(self) -> Optional[Fields]:
         """The next message; None at the end of the stream."""
         length = 0
         for line in iter(self.stream.readline, b""):
@@ -40,50 +50,51 @@ class Server:
                 length = int(value)
             elif not line.strip() and length:
                 try:
-                    return json.loads(self.stream.read(length))
+                    message: Fields = json.loads(self.stream.read(length))
+                    return message
                 except ValueError as wrong:
                     self.send({"id": None, "error": {"code": NO_JSON, "message": str(wrong)}})
                 length = 0
         return None
 
-    def send(self, message):
+    def send(self, message: Fields) -> None:
         text = json.dumps({"jsonrpc": "2.0", **message})
         self.out.write(f"Content-Length: {len(text)}\r\n\r\n{text}")
         self.out.flush()
 
     # ---- methods
 
-    def initialize(self, _given):
+    def initialize(self, _given: Fields) -> Fields:
         able = {"textDocumentSync": FULL_TEXTS, "hoverProvider": True}
         return {"capabilities": able, "serverInfo": {"name": "virraupez"}}
 
-    def shut_down(self, _given):
+    def shut_down(self, _given: Fields) -> None:
         self.is_over = True
 
-    def opened(self, given):
+    def opened(self, given: Fields) -> None:
         self.keep(given["textDocument"]["uri"], given["textDocument"]["text"])
 
-    def changed(self, given):
+    def changed(self, given: Fields) -> None:
         self.keep(given["textDocument"]["uri"], given["contentChanges"][-1]["text"])
 
-    def closed(self, given):
+    def closed(self, given: Fields) -> None:
         self.texts.pop(given["textDocument"]["uri"], None)
         self.publish(given["textDocument"]["uri"], [])
 
-    def keep(self, name, text):
+    def keep(self, name: str, text: str) -> None:
         self.texts[name] = text
         self.publish(name, list(diagnostics(text)))
 
-    def publish(self, name, found):
+    def publish(self, name: str, found: List[Fields]) -> None:
         self.send({"method": "textDocument/publishDiagnostics", "params": {"uri": name, "diagnostics": found}})
 
-    def hover(self, given):
+    def hover(self, given: Fields) -> Optional[Fields]:
         text, at = self.texts.get(given["textDocument"]["uri"], ""), given["position"]
         says = descriptions(name_at(text, at["line"], at["character"]))
         return {"contents": {"kind": "plaintext", "value": "\n\n".join(says)}} if says else None
 
 
-ANSWERS = {
+ANSWERS: Dict[str, Callable[[Server, Fields], Any]] = {
     "initialize": Server.initialize,
     "shutdown": Server.shut_down,
     "textDocument/didOpen": Server.opened,
@@ -93,7 +104,7 @@ ANSWERS = {
 }
 
 
-def diagnostics(text):
+def diagnostics(text: str) -> Iterator[Fields]:
     """What explain finds of a text, at the places of its lines."""
     lines = text.split("\n")
     for it in report.Report(text.encode("utf-8", "surrogatepass")).entries:
@@ -109,12 +120,12 @@ def diagnostics(text):
         }
 
 
-def units(text):
+def units(text: str) -> int:
     """How many UTF-16 units a text has."""
     return len(text.encode("utf-16-le", "surrogatepass")) // 2
 
 
-def name_at(text, line, character):
+def name_at(text: str, line: int, character: int) -> str:
     """The text between quotes at a place; an empty one if there is none."""
     lines = text.split("\n")
     given = lines[line].encode("utf-16-le", "surrogatepass") if line < len(lines) else b""
@@ -122,7 +133,7 @@ def name_at(text, line, character):
     return before.rpartition('"')[2] + after.partition('"')[0] if '"' in before and '"' in after else ""
 
 
-def descriptions(name):
+def descriptions(name: str) -> List[str]:
     """What the schema says of fields with a name, wherever there are some."""
     found, left = {}, [schema.schema(False)]
     while left:

@@ -1,7 +1,14 @@
 """Scripts as lines with labels, and documents as Python programs: the way back from what `assembler` and `build` make."""
+from __future__ import annotations
+
 import json
 
-from . import assembler, grammar
+from . import TYPE_CHECKING, assembler, grammar
+
+if TYPE_CHECKING:
+    from typing import Dict, Iterator, List, Optional
+
+    from .shapes import Document, Fields, Instruction, Script
 
 INDENT = "    "
 INFIX = {"add": "+", "sub": "-", "mul": "*", "lt": "<", "eq": "=="}
@@ -10,7 +17,7 @@ INFIX = {"add": "+", "sub": "-", "mul": "*", "lt": "<", "eq": "=="}
 # ---- scripts
 
 
-def lines_of(instructions):
+def lines_of(instructions: Script) -> Optional[List[str]]:
     """The lines of a script, or none if its instructions can't be written so."""
     labels = labels_of(instructions)
     made = []
@@ -21,13 +28,13 @@ def lines_of(instructions):
     return made if not assembled.faults and assembled.instructions == instructions else None
 
 
-def labels_of(instructions):
+def labels_of(instructions: Script) -> Dict[int, str]:
     """The labels of the places to which skips lead."""
     places = sorted({at + 1 + it[2] for at, it in enumerate(instructions) if it[0] == "skip"})
     return {place: assembler.END if place == len(instructions) else f"L{number}" for number, place in enumerate(places, 1)}
 
 
-def line_of(instruction, at, labels):
+def line_of(instruction: Instruction, at: int, labels: Dict[int, str]) -> str:
     word, *items = instruction
     if word == "skip":
         condition = "" if items[0] == 1 else f"if {items[0]} "
@@ -40,7 +47,7 @@ def line_of(instruction, at, labels):
     return f"{to} = {one} {INFIX[operation]} {other}" if operation in INFIX else f"{to} = {operation}({one}, {other})"
 
 
-def script_of(instructions, indent=""):
+def script_of(instructions: Script, indent: str = "") -> str:
     """A script as an argument of a call: its lines as a text, or the list of its instructions."""
     made = lines_of(instructions) if instructions else None
     if made is None:
@@ -51,7 +58,7 @@ def script_of(instructions, indent=""):
 # ---- documents
 
 
-def program_of(document):
+def program_of(document: Document) -> Iterator[str]:
     """The lines of a Python program that writes a lawful document."""
     order = f", order={grammar.order_of(document)!r}" if document["version"] == grammar.SINCE["order"] else ""
     yield "import virraupez\n"
@@ -71,7 +78,7 @@ def program_of(document):
 METHODS = {"action server": "action", "action client": "action_client"}
 
 
-def call_of(method, kind, entity):
+def call_of(method: str, kind: str, entity: Fields) -> str:
     """The call that declares an entity."""
     words = [repr(entity["name"])]
     if kind == "actions" and "on_goal" not in entity:
@@ -84,7 +91,7 @@ def call_of(method, kind, entity):
     return f"{method}({', '.join(words)})"
 
 
-def moments_of(moments):
+def moments_of(moments: List[int]) -> str:
     """The call that gives the moments: by their distance if that is always the same."""
     steps = {after - before for before, after in zip(moments, moments[1:])}
     if len(steps) == 1 and min(steps) > 0 and len(moments) > 3:
@@ -93,7 +100,7 @@ def moments_of(moments):
     return f"robot.moments({', '.join(map(str, moments))})"
 
 
-def fed_of(entry):
+def fed_of(entry: Fields) -> str:
     at = f"round={entry['round']}"
     if "topic" in entry:
         return f"robot.message({entry['topic']!r}, {entry['value']}, {at})"

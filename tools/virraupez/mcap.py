@@ -1,12 +1,23 @@
 """Files of the storage MCAP, which ROS 2 records by default since Iron (mcap.dev, format 0): their schemas, channels and messages.
 
 Chunks may be plain, or compressed by zstd if this Python or this machine has it."""
+from __future__ import annotations
+
 import heapq
 import itertools
 import mmap
 import struct
 import subprocess
 import zlib
+
+from . import TYPE_CHECKING
+
+if TYPE_CHECKING:
+    import pathlib
+    from typing import Container, Dict, Iterator, List, Optional, Tuple
+
+    # A time in nanoseconds, a topic, and the bytes of a message.
+    Recorded = Tuple[int, str, bytes]
 
 MAGIC = b"\x89MCAP0\r\n"
 SCHEMA, CHANNEL, MESSAGE, CHUNK, DATA_END = 3, 4, 5, 6, 15
@@ -24,7 +35,13 @@ class Wrong(Exception):
 class File:
     """A file, of which no more is in memory than is read of it."""
 
-    def __init__(self, path):
+    schemas: Dict[int, Tuple[str, str, str]]
+    channels: Dict[int, Tuple[int, str, str]]
+    parts: List[Tuple[int, int, bool]]
+    counts: Dict[int, int]
+    first: Optional[int]
+
+    def __init__(self, path: pathlib.Path) -> None:
         with open(path, "rb") as stream:
             self.given = memoryview(mmap.mmap(stream.fileno(), 0, access=mmap.ACCESS_READ)) if stream.seek(0, 2) else memoryview(b"")
         if bytes(self.given[: len(MAGIC)]) != MAGIC:
@@ -42,12 +59,12 @@ class File:
                 self.take(op, body, at)
         raise Wrong(CUT)
 
-    def take_chunk(self, at, body):
+    def take_chunk(self, at: int, body: memoryview) -> None:
         times = [time for op, _, inner in records(unpacked(body), 0) for time in [self.take(op, inner)] if time is not None]
         if times:
             self.parts.append((min(times), at, True))
 
-    def take(self, op, body, at=None):
+    def take(self, op: int, body: memoryview, at: Optional[int] = None) -> Optional[int]:
         """Takes a record; the time of a message."""
         if op == SCHEMA:
             (name, encoding, text), _ = texts(body, 2, 3)
@@ -57,6 +74,7 @@ class File:
             number, schema = struct.unpack_from("<HH", body)
             self.channels[number] = schema, topic, encoding
         elif op == MESSAGE:
+            time: int
             number, _, time, _ = MESSAGE_HEAD.unpack_from(body)
             if number not in self.channels:
                 raise Wrong(f"a message of the channel {number}, which there isn't")
@@ -67,14 +85,15 @@ class File:
             return time
         return None
 
-    def messages(self, names):
+    def messages(self, names: Container[str]) -> Iterator[Recorded]:
         """The messages of some topics in the order of their times: these in nanoseconds, topics and bytes. A part waits until no other
         part begins before its messages."""
-        waiting, number = [], itertools.count()
+        waiting: List[Tuple[int, int, str, bytes]] = []
+        number = itertools.count()
         for least, at, is_chunk in sorted(self.parts):
             while waiting and waiting[0][0] < least:
-                time, _, *more = heapq.heappop(waiting)
-                yield (time, *more)
+                time, _, topic, given = heapq.heappop(waiting)
+                yield time, topic, given
             body = next(records(self.given, at))[2]
             for op, _, inner in records(unpacked(body), 0) if is_chunk else [(MESSAGE, 0, body)]:
                 if op == MESSAGE:
@@ -83,11 +102,11 @@ class File:
                     if topic in names:
                         heapq.heappush(waiting, (time, next(number), topic, bytes(inner[MESSAGE_HEAD.size :])))
         while waiting:
-            time, _, *more = heapq.heappop(waiting)
-            yield (time, *more)
+            time, _, topic, given = heapq.heappop(waiting)
+            yield time, topic, given
 
 
-def records(given, at):
+def records(given: memoryview, at: int) -> Iterator[Tuple[int, int, memoryview]]:
     """The records from a place on: what each is, its place and its body."""
     while at + HEAD.size <= len(given):
         op, length = HEAD.unpack_from(given, at)
@@ -98,7 +117,7 @@ def records(given, at):
         at = begin + length
 
 
-def texts(given, at, count):
+def texts(given: memoryview, at: int, count: int) -> Tuple[List[str], int]:
     """Some texts that follow one another, and the place after them."""
     found = []
     for _ in range(count):
@@ -110,7 +129,7 @@ def texts(given, at, count):
     return found, at
 
 
-def unpacked(body):
+def unpacked(body: memoryview) -> memoryview:
     """The records of a chunk."""
     _, _, size, sum_of = CHUNK_HEAD.unpack_from(body)
     (how,), at = texts(body, CHUNK_HEAD.size, 1)
@@ -123,7 +142,7 @@ def unpacked(body):
     return given
 
 
-def of_zstd(packed):
+def of_zstd(packed: bytes) -> bytes:
     """What is compressed by zstd, by what this Python or this machine has."""
     for way in (by_python, by_module, by_program):
         try:
@@ -133,28 +152,32 @@ def of_zstd(packed):
     raise Wrong("a chunk is compressed by zstd, and this machine hasn't the program zstd")
 
 
-def by_python(packed):
+def by_python(packed: bytes) -> bytes:
     from compression import zstd  # Python 3.14
 
     try:
-        return zstd.decompress(packed)
+        made: bytes = zstd.decompress(packed)
+        return made
     except zstd.ZstdError:
         raise Wrong(NO_ZSTD) from None
 
 
-def by_module(packed):
+def by_module(packed: bytes) -> bytes:
     import zstandard
 
     try:
-        return zstandard.ZstdDecompressor().decompressobj().decompress(packed)
+        made: bytes = zstandard.ZstdDecompressor().decompressobj().decompress(packed)
+        return made
     except zstandard.ZstdError:
         raise Wrong(NO_ZSTD) from None
 
 
-def by_program(packed):
+def by_program(packed: bytes) -> bytes:
     try:
         return subprocess.run(["zstd", "-dcq"], input=packed, stdout=subprocess.PIPE, stderr=subprocess.DEVNULL, check=True).stdout
     except FileNotFoundError:
         raise ImportError from None
     except subprocess.CalledProcessError:
         raise Wrong(NO_ZSTD) from None
+
+

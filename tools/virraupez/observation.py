@@ -1,21 +1,39 @@
 """What an executor of ROS 2 did: the callbacks that it ran, in rounds. A round begins after the executor has waited for work.
 
 It is read from a trace of ros2_tracing, in CTF, by bt2 of Babeltrace 2; or from a table with the columns time, kind and name."""
+from __future__ import annotations
+
 import collections
 import csv
 import io
 import os
+from typing import NamedTuple
 
-from . import command, grammar, transcript
+from . import TYPE_CHECKING, command, grammar, transcript
 
-# A callback's start, in nanoseconds; or that an executor waits for work, which has the kind WAIT.
-Event = collections.namedtuple("Event", "time kind name")
-Round = collections.namedtuple("Round", "moment callbacks")
+if TYPE_CHECKING:
+    from typing import Any, Callable, DefaultDict, Deque, Dict, Iterable, Iterator, List, Mapping, Optional, Sequence, Tuple
+
 WAIT, COLUMNS = "wait", ("time", "kind", "name")
 KINDS = ("timer", "message", "request", "reply")
 
 
-def read(name, thread=None):
+class Event(NamedTuple):
+    """A callback's start, in nanoseconds; or that an executor waits for work, which has the kind WAIT."""
+
+    time: int
+    kind: str
+    name: str
+
+
+class Round(NamedTuple):
+    """A round, with the names and the kinds of its callbacks."""
+
+    moment: int
+    callbacks: List[Tuple[str, str]]
+
+
+def read(name: str, thread: Optional[int] = None) -> List[Event]:
     """The events of a folder in CTF, or of a table."""
     return list(of_trace(name, thread)) if name != command.STANDARD and os.path.isdir(name) else list(of_table(name))
 
@@ -23,7 +41,7 @@ def read(name, thread=None):
 # ---- a table
 
 
-def of_table(name):
+def of_table(name: str) -> Iterator[Event]:
     rows = csv.DictReader(io.StringIO(command.text_of(name)), skipinitialspace=True)
     if not set(COLUMNS) <= set(rows.fieldnames or ()):
         raise command.Trouble(f"{command.place(name, 1)}no table of callbacks: its first line has the columns {', '.join(COLUMNS)}")
@@ -40,10 +58,14 @@ def of_table(name):
 class Graph:
     """What callbacks are of, as the tracepoints of an executor's start say it: by the numbers of handles and callbacks."""
 
-    def __init__(self):
+    of: Dict[int, Optional[str]]
+    callbacks: Dict[int, Tuple[str, Optional[str]]]
+    symbols: Dict[int, str]
+
+    def __init__(self) -> None:
         self.of, self.callbacks, self.symbols = {}, {}, {}
 
-    def take(self, name, field):
+    def take(self, name: str, field: Callable[[str], Any]) -> None:
         """Takes a tracepoint, whose fields a function gives."""
         if name == "rcl_subscription_init":
             self.of[int(field("subscription_handle"))] = str(field("topic_name"))
@@ -57,10 +79,11 @@ class Graph:
         elif name == "rclcpp_callback_register":
             self.symbols[int(field("callback"))] = str(field("symbol"))
 
-    def event(self, time, callback):
+    def event(self, time: int, callback: int) -> Event:
         """The start of a callback: a subscription and a service are named by their topic or service, a timer by its function."""
         kind, name = self.callbacks.get(callback, ("callback", None))
-        return Event(time, kind, name or self.symbols.get(callback, "?"))
+        symbol = self.symbols.get(callback)
+        return Event(time, kind, name or ("?" if symbol is None else symbol))
 
 
 CALLBACKS = {
@@ -70,7 +93,7 @@ CALLBACKS = {
 }
 
 
-def of_trace(name, thread):
+def of_trace(name: str, thread: Optional[int]) -> Iterator[Event]:
     try:
         import bt2
     except ImportError:
@@ -97,7 +120,7 @@ def of_trace(name, thread):
 # ---- rounds
 
 
-def rounds(events, names, tick, begin):
+def rounds(events: Sequence[Event], names: Mapping[str, str], tick: int, begin: int) -> List[Round]:
     """The rounds of events. A moment is the tick that is nearest to the first callback of its round; the first round is at begin."""
     unnamed = sorted({it.name for it in events if it.kind != WAIT and not grammar.NAME.fullmatch(names.get(it.name, it.name))})
     if unnamed:
@@ -115,7 +138,7 @@ def rounds(events, names, tick, begin):
     return found
 
 
-def lines(found):
+def lines(found: Iterable[Round]) -> Iterator[str]:
     """What was run, in the words of a transcript."""
     for number, it in enumerate(found, 1):
         yield f"round {number} {it.moment}"
@@ -125,9 +148,13 @@ def lines(found):
 class Like:
     """A transcript whose callbacks are put where they were observed, so that diff says where the two part."""
 
-    def __init__(self, name):
+    heads: List[List[str]]
+    blocks: DefaultDict[Tuple[str, str], Deque[List[str]]]
+    pending: List[str]
+
+    def __init__(self, name: str) -> None:
         self.heads, self.blocks, self.pending = [], collections.defaultdict(collections.deque), []
-        to = None
+        to: List[str] = []
         for line in transcript.lines(name):
             words = line.split(" ")
             if words[0] == "round":
@@ -141,7 +168,7 @@ class Like:
             elif words[0] != "end":
                 to.append(line)
 
-    def lines(self, found):
+    def lines(self, found: Sequence[Round]) -> Iterator[str]:
         """Its callbacks in observed rounds, each with what it did. One that it hasn't has the values 0."""
         for number, it in enumerate(found, 1):
             yield f"round {number} {it.moment}"

@@ -1,5 +1,7 @@
 """Where a Python program said what stands in its document: its calls of this package with their lines, and the places of their
 arguments, and of the lines of scripts, in the program's text."""
+from __future__ import annotations
+
 import ast
 import functools
 import inspect
@@ -7,13 +9,21 @@ import linecache
 import pathlib
 import sys
 
+from . import TYPE_CHECKING
+
+if TYPE_CHECKING:
+    from typing import Any, Callable, Dict, List, Optional, Tuple
+
+    # A line and a column, from 1.
+    Position = Tuple[int, int]
+
 PACKAGE = str(pathlib.Path(__file__).resolve().parent)
 
 
 class Call:
     """A call of a method with the place that it has in the program that called it."""
 
-    def __init__(self, method):
+    def __init__(self, method: Callable[..., Any]) -> None:
         frame = sys._getframe(1)
         while frame.f_back and own(frame.f_code.co_filename):
             frame = frame.f_back
@@ -23,42 +33,42 @@ class Call:
             frame = frame.f_back
             self.callers.append((frame.f_code.co_filename, frame.f_lineno))
 
-    def led_by(self):
+    def led_by(self) -> List[str]:
         """Lines that say which calls led to this one."""
         return [f"  called from {file}:{line}" for file, line in self.callers]
 
-    def place(self, argument=None, index=None):
+    def place(self, argument: Optional[str] = None, index: Optional[int] = None) -> Position:
         """The line and the column of the call, of an argument by its name, or of an item of an argument that is a list."""
-        node = self.node()
-        given = argument_of(node, self.method, argument) if node and argument else None
+        call = self.node()
+        given = argument_of(call, self.method, argument) if call and argument else None
         if index is not None and isinstance(given, (ast.List, ast.Tuple)) and index < len(given.elts):
             given = given.elts[index]
-        node = given or node
+        node = given or call
         return place_of(self.file, node) if node else (self.line, 1)
 
-    def script_place(self, argument, script, line, part=""):
+    def script_place(self, argument: str, script: str, line: int, part: str = "") -> Position:
         """The line and the column of a part of a line of the script that an argument gives."""
         node = self.node()
         given = argument_of(node, self.method, argument) if node else None
         return in_script(self.file, given, script, line, part) if given else self.place()
 
-    def node(self):
+    def node(self) -> Optional[ast.Call]:
         """The call in the program's syntax; None where its text isn't there."""
         name = "Document" if self.method.__name__ == "__init__" else self.method.__name__
-        calls = [it for it in syntax(self.file)[ast.Call] if it.lineno <= self.line <= it.end_lineno and called(it) == name]
-        return min(calls, key=lambda it: it.end_lineno - it.lineno, default=None)
+        calls = [it for it in syntax(self.file)[ast.Call] if it.lineno <= self.line <= it.lineno + rows_of(it) and called(it) == name]
+        return min(calls, key=rows_of) if calls else None
 
 
 @functools.lru_cache(maxsize=None)
-def own(file):
+def own(file: str) -> bool:
     """Whether a file is one of this package."""
     return str(pathlib.Path(file).resolve().parent) == PACKAGE
 
 
 @functools.lru_cache(maxsize=None)
-def syntax(file):
+def syntax(file: str) -> Dict[type, List[Any]]:
     """The calls and the texts of a program; none if it can't be read."""
-    found = {ast.Call: [], ast.Constant: []}
+    found: Dict[type, List[Any]] = {ast.Call: [], ast.Constant: []}
     try:
         tree = ast.parse("".join(linecache.getlines(file)))
     except SyntaxError:
@@ -69,12 +79,12 @@ def syntax(file):
     return found
 
 
-def called(call):
+def called(call: ast.Call) -> Optional[str]:
     """The name of what is called, without that of its owner."""
     return getattr(call.func, "attr", getattr(call.func, "id", None))
 
 
-def argument_of(call, method, name):
+def argument_of(call: ast.Call, method: Callable[..., Any], name: str) -> Optional[ast.expr]:
     """An argument of a call by its name; None if it isn't written there."""
     for keyword in call.keywords:
         if keyword.arg == name:
@@ -85,7 +95,12 @@ def argument_of(call, method, name):
     return call.args[at] if at < len(call.args) and not starred else None
 
 
-def place_of(file, node):
+def rows_of(node: ast.expr) -> int:
+    """How many rows a part of a program has after its first."""
+    return (node.end_lineno or node.lineno) - node.lineno
+
+
+def place_of(file: str, node: ast.expr) -> Position:
     """The line and the column of a part of a program, both from 1. Syntax counts bytes in a line, and a column characters."""
     before = linecache.getline(file, node.lineno).encode()[: node.col_offset]
     return node.lineno, len(before.decode(errors="replace")) + 1
@@ -94,12 +109,12 @@ def place_of(file, node):
 # ---- scripts
 
 
-def in_script(file, given, script, line, part):
+def in_script(file: str, given: ast.expr, script: str, line: int, part: str) -> Position:
     """The place of a part of a script's line, if the argument that gives the script is a text, or the name of one."""
     if not isinstance(given, (ast.Constant, ast.JoinedStr)):
         given = next((it for it in syntax(file)[ast.Constant] if it.value == script), given)
     row, column = place_of(file, given)
-    lines, last = script.split("\n"), given.end_lineno
+    lines, last = script.split("\n"), row + rows_of(given)
     says = lines[line - 1].split("#", 1)[0].strip()
     # A text in triple quotes has a row for each of its lines; any other text is looked through for the line.
     if last - row == len(lines) - 1:
@@ -110,3 +125,5 @@ def in_script(file, given, script, line, part):
             return at, begin + 1 + max(says.find(part), 0)
     text = linecache.getline(file, row)
     return row, max(column, len(text) - len(text.lstrip()) + 1)
+
+

@@ -1,8 +1,18 @@
 """The picture of a scene as SVG: colours that colour-blind people tell apart, for light and for dark, with a shape or a word
 beside each."""
+from __future__ import annotations
+
 from xml.sax import saxutils
 
-from . import plots, transcript
+from . import TYPE_CHECKING, plots, transcript
+
+if TYPE_CHECKING:
+    from typing import Dict, Iterable, List, Optional, Tuple
+
+    from .flow import Origin
+    from .scene import Box, Goal, Scene
+    from .series import Panel
+    from .shapes import Point
 
 # The families of kinds, by which callbacks and lines are coloured.
 FAMILIES = {
@@ -36,14 +46,16 @@ MARKS = {"4": "✓", "5": "■", "6": "✗"}
 class Scale:
     """The measures of a picture: with words on its boxes, or, for many rounds, without."""
 
-    def __init__(self, rounds):
+    def __init__(self, rounds: int) -> None:
         self.wordy = rounds <= 60
         self.column, self.box, self.high, self.gap = (124, 100, 28, 5) if self.wordy else (16, 10, 9, 2)
         self.left, self.top, self.bar = 150, 64, 18
 
 
 class Picture:
-    def __init__(self, scene, plotted=()):
+    parts: List[str]
+
+    def __init__(self, scene: Scene, plotted: Iterable[Tuple[str, Panel]] = ()) -> None:
         self.scene, self.scale, self.parts = scene, Scale(len(scene.columns)), []
         self.tops, self.bottom = self.stack()
         self.lanes = self.lanes_of(scene.shown_goals())
@@ -52,9 +64,9 @@ class Picture:
         self.plots, bottom = plots.stacked(plotted, self.goal_top + len(self.lanes) * (self.scale.bar + 6) + 8)
         self.height = bottom + 38
 
-    def stack(self):
+    def stack(self) -> Tuple[List[int], int]:
         """The top of each row, where the callbacks of a round stand one below the other, and the bottom of all."""
-        counts = {}
+        counts: Dict[Tuple[int, int], int] = {}
         for box in self.scene.boxes.values():
             place = box.row, box.column
             box.at = counts.get(place, 0)
@@ -68,15 +80,15 @@ class Picture:
 
     # ---- places
 
-    def x(self, column):
+    def x(self, column: float) -> float:
         return self.scale.left + column * self.scale.column
 
-    def place(self, box):
+    def place(self, box: Box) -> Point:
         """The left upper corner of a box."""
         inset = (self.scale.column - self.scale.box) // 2
         return self.x(box.column) + inset, self.tops[box.row] + self.scale.gap + box.at * (self.scale.high + self.scale.gap)
 
-    def change_x(self, goal, place):
+    def change_x(self, goal: Goal, place: int) -> float:
         """Where a goal's change of state stands in its column, which it shares with the other changes of that round."""
         column = goal.changes[place][0]
         if column < 0:
@@ -86,13 +98,13 @@ class Picture:
 
     # ---- parts
 
-    def add(self, text):
+    def add(self, text: str) -> None:
         self.parts.append(text)
 
-    def words(self, x, y, text, style="", more=""):
+    def words(self, x: float, y: float, text: str, style: str = "", more: str = "") -> None:
         self.add(f'<text x="{x:g}" y="{y:g}"{attribute("class", style)}{more}>{escape(text)}</text>')
 
-    def svg(self):
+    def svg(self) -> str:
         first, last = self.scene.columns[0][0], self.scene.columns[-1][0]
         self.add(f'<svg xmlns="http://www.w3.org/2000/svg" viewBox="0 0 {self.width} {self.height}" width="{self.width}" height="{self.height}" role="img">')
         self.add(f"<title>Rounds {first} to {last} of a run</title>\n<style>{STYLE}{plots.STYLE if self.plots else ''}</style>")
@@ -116,7 +128,7 @@ class Picture:
         self.add("</svg>")
         return "\n".join(self.parts) + "\n"
 
-    def grid(self):
+    def grid(self) -> None:
         """The stripes and the heads of the columns. A head may be wider than its column, so all stripes come before."""
         every = 1 if self.scale.wordy else 10
         for at in range(len(self.scene.columns)):
@@ -129,7 +141,7 @@ class Picture:
             self.words(middle, 38, f"round {number}" if self.scale.wordy or at == 0 else number, "head", anchor)
             self.words(middle, 52, f"at {moment}" if self.scale.wordy or at == 0 else moment, "small", anchor)
 
-    def row(self, row, node, group, kind):
+    def row(self, row: int, node: str, group: Optional[str], kind: str) -> None:
         top = self.tops[row]
         self.add(f'<line class="rule" x1="0" x2="{self.width}" y1="{top}" y2="{top}"/>')
         self.add(f"<g><title>{escape(node)}: {'the group ' + escape(group) if group else 'its default group'}, {kind}</title>")
@@ -137,7 +149,7 @@ class Picture:
         self.words(10, top + 26, clip(f"{group} ({kind})" if group else "default group", 24), "small")
         self.add("</g>")
 
-    def box(self, box):
+    def box(self, box: Box) -> None:
         x, y = self.place(box)
         family = "lost" if box.is_drop else FAMILIES.get(box.kind, "time")
         more = f"\nand {box.more} more lines" if box.more else ""
@@ -152,13 +164,13 @@ class Picture:
             self.words(x + inset, y + 23, clip(says, 16), "small")
         self.add("</g>")
 
-    def cross(self, x, y):
+    def cross(self, x: float, y: float) -> None:
         """The sign of an item that was dropped."""
         size = 8 if self.scale.wordy else self.scale.high - 4
         left, top = (x + 6, y + 10) if self.scale.wordy else (x + 3, y + 2)
         self.add(f'<path class="lost" fill="none" stroke-width="2" d="M{left},{top} l{size},{size} m0,-{size} l-{size},{size}"/>')
 
-    def link(self, origin, box):
+    def link(self, origin: Origin, box: Box) -> None:
         """A line from what sent an item to what took or lost it; what is fed comes from the top of its round."""
         x, y = self.place(box)
         y += self.scale.high / 2
@@ -177,12 +189,12 @@ class Picture:
             path = f"M{from_x:g},{from_y:g} C{from_x + bend:g},{from_y:g} {x - bend:g},{y:g} {x:g},{y:g}"
         self.add(f'<path class="link {family}" d="{path}{tip}"><title>{escape(origin.text)}</title></path>')
 
-    def side(self, box):
+    def side(self, box: Box) -> Point:
         """The middle of a box's right side, where lines begin."""
         x, y = self.place(box)
         return x + self.scale.box, y + self.scale.high / 2
 
-    def pending(self):
+    def pending(self) -> None:
         for row, name, count in self.scene.pending:
             if row is not None:
                 said = f"{name}: {count} pending"
@@ -191,21 +203,21 @@ class Picture:
 
     # ---- goals
 
-    def lanes_of(self, goals):
+    def lanes_of(self, goals: Iterable[Goal]) -> List[Tuple[str, List[Goal]]]:
         """The goals of each server in as few lanes as have room for their bars, each with its name before it."""
-        lanes = {}
+        lanes: Dict[str, List[List[Goal]]] = {}
+        ends: Dict[str, List[float]] = {}
         for goal in goals:
             begin, end = self.change_x(goal, 0) - 8 * len(goal.name()) - 10, self.end_x(goal, len(goal.changes) - 1)
-            own = lanes.setdefault(goal.server, [])
-            lane = next((it for it in own if it[0] <= begin), None)
-            if lane is None:
-                lane = [0, []]
-                own.append(lane)
-            lane[0] = end
-            lane[1].append(goal)
-        return [(server, lane[1]) for server, own in lanes.items() for lane in own]
+            own, over = lanes.setdefault(goal.server, []), ends.setdefault(goal.server, [])
+            at = next((at for at, it in enumerate(over) if it <= begin), len(own))
+            if at == len(own):
+                own.append([])
+            own[at].append(goal)
+            over[at : at + 1] = [end]
+        return [(server, lane) for server, own in lanes.items() for lane in own]
 
-    def goal(self, goal, y):
+    def goal(self, goal: Goal, y: float) -> None:
         self.add(f"<g><title>goal {escape(goal.identifier)} of {escape(goal.server)}</title>")
         self.words(self.change_x(goal, 0) - 4, y + 12, goal.name(), "small", ' text-anchor="end"')
         for at, (_, status) in enumerate(goal.changes):
@@ -215,7 +227,7 @@ class Picture:
             self.add(f'<circle class="dot" cx="{x:g}" cy="{y + 14:g}" r="{size}"><title>feedback {value}</title></circle>')
         self.add("</g>")
 
-    def state(self, goal, at, status, y):
+    def state(self, goal: Goal, at: int, status: str, y: float) -> None:
         """The part of a goal's bar for one of its states; one that ended is half as high."""
         begin, end, ended = self.change_x(goal, at), self.end_x(goal, at), status in MARKS
         high, top = (self.scale.bar * 0.6, y + self.scale.bar * 0.2) if ended else (self.scale.bar, y)
@@ -226,14 +238,14 @@ class Picture:
         if end - begin > 7 * len(name) + 18:
             self.words(begin + (14 if ended else 5), y + (12 if ended else 9), name.lower(), "on", ' style="font-size:9px"')
 
-    def end_x(self, goal, at):
+    def end_x(self, goal: Goal, at: int) -> float:
         """Where a state ends: at the next one, at its expiry, or at the picture's end."""
         if at + 1 < len(goal.changes):
             return self.change_x(goal, at + 1)
         last = self.x(len(self.scene.columns))
         return min(self.x(goal.expired), last) if goal.expired is not None else last
 
-    def legend(self):
+    def legend(self) -> None:
         y, x = self.height - 14, 10
         for family, says in LEGEND:
             self.add(f'<rect class="box {family}" x="{x}" y="{y - 9}" width="12" height="10" rx="2"/>')
@@ -253,14 +265,14 @@ class Picture:
             self.words(x + 30, y, "what is fed", "small")
 
 
-def escape(text):
+def escape(text: str) -> str:
     """A text as XML may have it."""
     return saxutils.escape("".join(sign if sign.isprintable() or sign == "\n" else "?" for sign in text))
 
 
-def attribute(name, value):
+def attribute(name: str, value: str) -> str:
     return f' {name}="{value}"' if value else ""
 
 
-def clip(text, most):
+def clip(text: str, most: int) -> str:
     return text if len(text) <= most else text[: most - 1] + "…"

@@ -1,10 +1,18 @@
 """All faults of a document, and the code that the program refuses it with: the least."""
-from . import declarations, faults, json_text, scripts
+from __future__ import annotations
+
+from . import TYPE_CHECKING, declarations, faults, json_text, scripts
+
+if TYPE_CHECKING:
+    from typing import Any, Iterator
+
+    from .declarations import Declared
+    from .faults import Fault
 
 PARTS = (faults.version, faults.names, faults.limits, scripts.faults, faults.clock, faults.identifiers)
 
 
-def of(document, declared):
+def of(document: Any, declared: Declared) -> Iterator[Fault]:
     """The faults of the codes 2 to 9 of a value that JSON's reader gave, and of what it declares."""
     for fault in faults.shape(document, "document"):
         declared.is_whole = False
@@ -13,7 +21,7 @@ def of(document, declared):
         yield from part(declared)
 
 
-def code(given):
+def code(given: bytes) -> int:
     """The code of a document's bytes, or 0 where they say a plan."""
     try:
         document = json_text.read(given.decode())

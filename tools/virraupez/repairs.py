@@ -2,12 +2,19 @@
 
 Each begins with what to do at the place of the fault: `write X` is X in place of what stands there, `rename A to B` is of a field,
 `add X` is a field of the object, and `in place of the instruction write X` is of the whole instruction."""
+from __future__ import annotations
+
 import bisect
 import json
 import re
 
-from . import assembler, ticks
+from . import TYPE_CHECKING, assembler, ticks
 from . import grammar as g
+
+if TYPE_CHECKING:
+    from typing import Any, Dict, List, Optional, Tuple
+
+    from .shapes import Fields, Form, Instruction, Key, Path, Script
 
 # What users write in place of a field that is required.
 ALIASES = {
@@ -21,16 +28,16 @@ ALIASES = {
     "kind": ("type", "group_type"),
 }
 # The fields whose false may be left out, with what the document has then.
-WITHOUT = {"result_timeout": "results are kept without end", "group": "the node's default group", "on_result": "the client asks for no results"}
+WITHOUT: Dict[Key, str] = {"result_timeout": "results are kept without end", "group": "the node's default group", "on_result": "the client asks for no results"}
 NAMED = {"T": "a topic", "C": "a service client of the node", "K": "an action client of the node", "X": "a server of the node"}
-LEAST = {"period": 1, "depth": 1, "round": 1, "version": 1}
+LEAST: Dict[Key, int] = {"period": 1, "depth": 1, "round": 1, "version": 1}
 
 
 # What is longer is told by what it is made of.
 LONGEST = 300
 
 
-def written(value):
+def written(value: Any) -> str:
     """A value as JSON; nothing if it is long, or has a number that no field takes."""
     try:
         text = json.dumps(value, ensure_ascii=False)
@@ -39,7 +46,7 @@ def written(value):
     return text if len(text) <= LONGEST else ""
 
 
-def write(value, says="", otherwise=""):
+def write(value: Any, says: str = "", otherwise: str = "") -> str:
     text = written(value)
     return f"write {text}" + (f": {says}" if says else "") if text else otherwise
 
@@ -47,7 +54,7 @@ def write(value, says="", otherwise=""):
 # ---- values of another form
 
 
-def of_value(value, form, path, owner=None):
+def of_value(value: Any, form: Form, path: Path, owner: Optional[str] = None) -> str:
     """A hint for a value of another form; nothing if a general one will do."""
     field = path[-1] if path else ""
     if value is None:
@@ -63,18 +70,18 @@ def of_value(value, form, path, owner=None):
     return of_single(value, form, field)
 
 
-def of_null(field, owner):
+def of_null(field: Key, owner: Optional[str]) -> str:
     if isinstance(field, int):
         return "leave it out"
-    if field in g.REQUIRED.get(owner, ()):
-        return f"{article(owner)} needs it" if field != "version" else write(1, "2 is the version that has the field `order`")
+    if field in g.REQUIRED.get(owner or "", ()):
+        return f"{article(owner or '')} needs it" if field != "version" else write(1, "2 is the version that has the field `order`")
     return "leave the field out"
 
 
-def of_truth(value, form, field, owner):
+def of_truth(value: Any, form: str, field: Key, owner: Optional[str]) -> str:
     """A hint for true and false, which nothing in a document is."""
     if form in ("count", "value"):
-        if not value and field not in g.REQUIRED.get(owner, ()) and isinstance(field, str):
+        if not value and field not in g.REQUIRED.get(owner or "", ()) and isinstance(field, str):
             return "leave the field out" + (f": {WITHOUT[field]}" if field in WITHOUT else "")
         return write(max(int(value), LEAST.get(field, 0))) if field != "result_timeout" else ""
     if field == "group":
@@ -82,7 +89,7 @@ def of_truth(value, form, field, owner):
     return ""
 
 
-def of_single(value, form, field):
+def of_single(value: Any, form: str, field: Key) -> str:
     if form == "text":
         if type(value) is int and field in ("goal", "cancel") and value >= 0:
             return write(g.hyphenated(value), "an identifier has 32 digits")
@@ -98,7 +105,7 @@ def of_single(value, form, field):
     return ""
 
 
-def of_list(value, form, field):
+def of_list(value: Any, form: Form, field: Key) -> str:
     """A hint for what stands in place of a list of some things."""
     if field == "moments":
         return write(moments(value) or [0, 10, 20], "each moment at which the executor looks at the world, in ticks")
@@ -115,7 +122,7 @@ def of_list(value, form, field):
     return ""
 
 
-def moments(value):
+def moments(value: Any) -> List[int]:
     """The moments that something else than a list is meant for."""
     if g.is_text(value):
         return sorted(int(it) for it in re.findall("(?<![0-9.])[0-9]{1,18}(?![0-9.])", value[:LONGEST]))
@@ -131,7 +138,7 @@ RANGE = (("every", "step", "period", "by"), ("until", "to", "end", "stop"), ("fr
 # ---- scripts and instructions
 
 
-def of_script(value, field):
+def of_script(value: Any, field: Key) -> str:
     """A hint for what stands in place of a script."""
     if g.is_text(value):
         made = assembled(value)
@@ -148,7 +155,7 @@ def of_script(value, field):
 LISTED = 'a script is a list of instructions, as [["log", "in"]]'
 
 
-def flat(script):
+def flat(script: List[Any]) -> Optional[Script]:
     """The instructions that a list of words is meant for; None if it is a list of instructions, or isn't understood."""
     if not 0 < len(script) <= g.INSTRUCTIONS or not all(map(g.is_word, script)):
         return None
@@ -157,7 +164,7 @@ def flat(script):
     return assembled("\n".join(map(str, script)))
 
 
-def of_instruction(value):
+def of_instruction(value: Any) -> str:
     """A hint for what stands in place of one instruction among others."""
     if not g.is_text(value):
         return ""
@@ -165,7 +172,7 @@ def of_instruction(value):
     return write(made[0], "an instruction is a list") if made and len(made) == 1 else 'an instruction is a list, as ["log", "in"]'
 
 
-def assembled(text):
+def assembled(text: str) -> Optional[Script]:
     """The instructions of a text that is a script with labels, or None."""
     try:
         return assembler.script(text[: 10 * LONGEST]) or None
@@ -173,7 +180,7 @@ def assembled(text):
         return None
 
 
-def of_word(instruction, at):
+def of_word(instruction: Instruction, at: int) -> str:
     """A hint for an item of an instruction that is neither a text nor an integer."""
     word, value = instruction[0], instruction[at]
     forms = forms_of(instruction)
@@ -201,7 +208,7 @@ def of_word(instruction, at):
 DECISIONS = "2 accepts, 1 rejects or refuses"
 
 
-def forms_of(instruction):
+def forms_of(instruction: Instruction) -> Optional[str]:
     """The forms of an instruction's items by its word, as many as there are."""
     word = instruction[0]
     if word == "cancel" and len(instruction) > 2 and g.is_text(instruction[2]):
@@ -212,11 +219,11 @@ def forms_of(instruction):
 # ---- words that users of other systems write
 
 
-def instead(*instructions):
+def instead(*instructions: Instruction) -> str:
     return "in place of the instruction write " + ", ".join(map(written, instructions))
 
 
-def of_other_word(instruction, role):
+def of_other_word(instruction: Instruction, role: str) -> str:
     """The instruction that is meant by one with another word, if it is plain."""
     word, items = instruction[0].lower(), instruction[1:]
     made = None
@@ -250,7 +257,7 @@ EXCHANGED = {">": ("lt", True, False), "gt": ("lt", True, False), "<=": ("lt", T
 NEGATED = {**EXCHANGED, "!=": ("eq", False, True), "ne": ("eq", False, True)}
 
 
-def of_operation(instruction):
+def of_operation(instruction: Instruction) -> str:
     """A hint for an operation that there is in another form."""
     _, to, word, one, other = instruction
     word = str(word).lower()
@@ -264,16 +271,16 @@ def of_operation(instruction):
 # ---- fields
 
 
-def article(noun):
+def article(noun: str) -> str:
     return f"{'an' if noun[0] in 'aeiou' else 'a'} {noun}"
 
 
-def version_with(order):
+def version_with(order: object) -> int:
     """The version that a document is meant to have, by its order."""
     return g.SINCE["order"] if g.is_order(order) else g.VERSIONS[0]
 
 
-def of_missing(name, owner, fields):
+def of_missing(name: str, owner: str, fields: Fields) -> str:
     """A hint for a field that is missing, by those that the object has."""
     if name == "version":
         return f'add "version": {version_with(fields.get("order"))}'
@@ -285,7 +292,7 @@ def of_missing(name, owner, fields):
     return f"rename `{other}` to `{name}`"
 
 
-def of_entry(fields):
+def of_entry(fields: Fields) -> str:
     """A hint for an entry of the feed that is none of the three: what it has beside tells which is meant."""
     if "action" not in fields:
         other = next((it for it in ALIASES["topic"] if it in fields), None)
@@ -299,7 +306,7 @@ def of_entry(fields):
     return f'add "cancel": "{g.hyphenated(0)}", which cancels all goals'
 
 
-def of_moment(moment, moments, highest):
+def of_moment(moment: int, moments: List[int], highest: List[int]) -> Tuple[Optional[int], str]:
     """The round of a moment: the first one at or after it, as a number from 1, and a hint that says so. The highest of all moments up
     to each are known."""
     found = bisect.bisect_left(highest, moment) + 1

@@ -1,7 +1,18 @@
 """What is told of a document: its code, the places of its faults and of its warnings, as texts and as JSON."""
+from __future__ import annotations
+
 import json
 
-from . import advice, declarations, faults, grammar, hints, json_text, refusals
+from . import TYPE_CHECKING, advice, declarations, faults, grammar, hints, json_text, refusals
+
+if TYPE_CHECKING:
+    from typing import Any, Callable, Dict, Iterable, Iterator, List, Optional
+
+    from .faults import Fault
+    from .json_text import Place
+    from .shapes import Document, Paint
+
+    Finder = Callable[[Any], Iterable[Fault]]
 
 # How many places of a code are told, unless all are asked for.
 TOLD = 20
@@ -11,7 +22,7 @@ CLIPPED = 60
 class Entry:
     """A fault or a warning with its place in the text."""
 
-    def __init__(self, fault, line, column, length, stands):
+    def __init__(self, fault: Fault, line: int, column: int, length: int, stands: str) -> None:
         self.code, self.path, self.kind, self.wanted = fault.code, fault.path, fault.kind, fault.wanted
         self.line, self.column, self.length, self.stands = line, column, length, stands
         self.hint = hints.hint(fault, stands)
@@ -22,7 +33,11 @@ class Entry:
 class Report:
     """A document's code, 0 where it isn't refused, with entries, and how many more places of each code there are."""
 
-    def __init__(self, given, most=TOLD, of=None):
+    entries: List[Entry]
+    counts: Dict[int, int]
+    code: int
+
+    def __init__(self, given: bytes, most: int = TOLD, of: Optional[Finder] = None) -> None:
         """Of is what gives the faults and warnings of a document's value: all, unless it is given."""
         self.most, self.entries, self.counts, self.rounds = most, [], {}, 0
         self.of = of or every
@@ -38,25 +53,25 @@ class Report:
             self.add_all(text, document)
         self.code = min((code for code in self.counts if code), default=0)
 
-    def add_bytes(self, given, wrong):
+    def add_bytes(self, given: bytes, wrong: UnicodeDecodeError) -> None:
         begin, hint = given[: wrong.start].decode(), "save the document as UTF-8"
         if given[:2] in (b"\xff\xfe", b"\xfe\xff"):
             hint = "this is UTF-16: save the document as UTF-8"
         stands = f"the byte 0x{given[wrong.start]:02x}"
         self.note(faults.Fault(1, (), "text in UTF-8", hint), *json_text.line_column(begin, len(begin)), 1, stands)
 
-    def add_json(self, text, wrong):
+    def add_json(self, text: str, wrong: json_text.NotJson) -> None:
         at, hint = wrong.at, wrong.hint
         stands = clip(text[at : at + CLIPPED].split("\n")[0]) if at < len(text) else "the end of the document"
         if text[at : at + 1] == "\ufeff":
             stands, hint = "a byte order mark", "save the document as UTF-8 without it"
         self.note(faults.Fault(1, tuple(wrong.path), wrong.wanted, hint), *json_text.line_column(text, at), 1, stands or "the end of the line")
 
-    def note(self, fault, *place):
+    def note(self, fault: Fault, line: int, column: int, length: int, stands: str) -> None:
         self.counts[fault.code] = self.counts.get(fault.code, 0) + 1
-        self.entries.append(Entry(fault, *place))
+        self.entries.append(Entry(fault, line, column, length, stands))
 
-    def add_all(self, text, document):
+    def add_all(self, text: str, document: Any) -> None:
         kept = []
         for fault in self.of(document):
             count = self.counts[fault.code] = self.counts.get(fault.code, 0) + 1
@@ -75,12 +90,12 @@ class Report:
         if isinstance(document, dict) and isinstance(document.get("moments"), list):
             self.rounds = len(document["moments"])
 
-    def more(self, code):
+    def more(self, code: int) -> int:
         """How many places of a code aren't among the entries."""
         return self.counts.get(code, 0) - sum(it.code == code for it in self.entries)
 
 
-def every(document):
+def every(document: Any) -> Iterator[Fault]:
     """All faults and warnings of a document."""
     declared = declarations.Declared(document)
     yield from refusals.of(document, declared)
@@ -88,27 +103,27 @@ def every(document):
         yield from advice.warnings(document, declared)
 
 
-def ignored(document):
+def ignored(document: Document) -> Iterator[Fault]:
     """The warnings of the fields of a document that an upgrade leaves out or changes."""
     for warning in advice.fields_of(document, "document"):
         if warning.path != ("order",) or document["order"] != grammar.ORDERS[0]:
             yield warning
 
 
-def begin_of(fault, place):
+def begin_of(fault: Fault, place: Place) -> int:
     return place.name if fault.at == faults.NAME else place.begin
 
 
-def name_end(text, at):
+def name_end(text: str, at: int) -> int:
     return json_text.string_end(text, at) if text[at] == '"' else at + 1
 
 
-def clip(text):
+def clip(text: str) -> str:
     text = " ".join(text.split())
     return text if len(text) <= CLIPPED else text[: CLIPPED - 1] + "…"
 
 
-def shown(text):
+def shown(text: str) -> str:
     """A text as a terminal may have it: names of a document may hold any character."""
     return "".join(sign if sign.isprintable() else f"\\u{ord(sign):04x}" for sign in text)
 
@@ -116,15 +131,15 @@ def shown(text):
 # ---- as texts
 
 
-def named(code):
+def named(code: int) -> str:
     return f"{code} ({grammar.CODES[code]})"
 
 
-def unpainted(_colour, text):
+def unpainted(_colour: str, text: str) -> str:
     return text
 
 
-def lines(report, name="", paint=unpainted):
+def lines(report: Report, name: str = "", paint: Paint = unpainted) -> Iterator[str]:
     """The lines that tell a report. Each that has a place begins with the document's name, if it is given, and the place."""
     head = f"{name}:" if name else ""
     if not report.code:
@@ -140,12 +155,12 @@ def lines(report, name="", paint=unpainted):
             yield from entry_lines(entry, report.code, head, paint)
 
 
-def warned(report):
+def warned(report: Report) -> str:
     count = report.counts.get(0, 0)
     return "no warning" if not count else "1 warning" if count == 1 else f"{count} warnings"
 
 
-def entry_lines(entry, code, head, paint):
+def entry_lines(entry: Entry, code: int, head: str, paint: Paint) -> Iterator[str]:
     """The lines that tell a fault or a warning of a document with a code."""
     what = "warning" if not entry.code else f"refused {named(entry.code)}" if entry.code == code else f"behind it {named(entry.code)}"
     at = f"{head}{entry.line}:{entry.column}:"
@@ -162,7 +177,7 @@ def entry_lines(entry, code, head, paint):
 # ---- as JSON
 
 
-def as_json(report, file=""):
+def as_json(report: Report, file: str = "") -> str:
     """A report as JSON, for editors: lines and columns are counted from 1, columns and lengths in characters."""
     entries = [
         {
@@ -183,3 +198,5 @@ def as_json(report, file=""):
     told["warnings"] = [it for it in entries if not it["code"]]
     told["more"] = {str(code): report.more(code) for code in sorted(report.counts) if report.more(code)}
     return json.dumps(told, indent=1)
+
+

@@ -1,14 +1,22 @@
 """SARIF 2.1.0 of what explain finds, as code scanning and editors read it (OASIS, Static Analysis Results Interchange Format)."""
+from __future__ import annotations
+
 import json
 import urllib.parse
 
-from . import command, faults, grammar, installation
+from . import TYPE_CHECKING, command, faults, grammar, installation
+
+if TYPE_CHECKING:
+    from typing import Iterable, Tuple
+
+    from .report import Entry, Report
+    from .shapes import Fields
 
 SCHEMA = "https://json.schemastore.org/sarif-2.1.0.json"
 WARNING = "Warning"
 
 
-def text(told):
+def text(told: Iterable[Tuple[str, Report]]) -> str:
     """The log of reports, each with the name of its document."""
     results = [result(name, entry) for name, report in told for entry in report.entries]
     rules = [{"id": name, "shortDescription": {"text": f"refused {code}"}} for code, name in grammar.CODES.items()]
@@ -18,7 +26,7 @@ def text(told):
     return json.dumps({"$schema": SCHEMA, "version": "2.1.0", "runs": [run]}, indent=1)
 
 
-def result(name, entry):
+def result(name: str, entry: Entry) -> Fields:
     says = [f"{faults.path_text(entry.path)}: {entry.wanted}"]
     if entry.code:
         says = [f"{faults.path_text(entry.path)}: {entry.stands}", f"wanted: {entry.wanted}"]

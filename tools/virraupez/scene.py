@@ -1,6 +1,19 @@
 """What a picture of a run shows: callbacks in rows of callback groups and columns of rounds, what was sent from which callback
 to which, and goals with their states. It is read from a transcript as a stream, and holds the rounds that are shown alone."""
-from . import flow, grammar, series, transcript
+from __future__ import annotations
+
+from . import TYPE_CHECKING, flow, grammar, series, transcript
+
+if TYPE_CHECKING:
+    from typing import Collection, Dict, Iterable, List, Optional, Tuple
+
+    from .fit import Own
+    from .flow import Origin
+    from .series import Series
+    from .shapes import Document, Words
+
+    # A node, a callback group of it, and the group's kind.
+    Row = Tuple[str, Optional[str], str]
 
 # How many rounds are shown where none are asked for, and how many lines a tooltip has.
 ROUNDS = 1000
@@ -10,12 +23,12 @@ TOLD = 24
 class Box:
     """A callback, or an item that was dropped: its place, what stands on it, and its lines."""
 
-    def __init__(self, row, column, words, line, number):
+    def __init__(self, row: int, column: int, words: Words, line: str, number: int) -> None:
         self.row, self.column, self.number, self.at = row, column, number, 0
         self.entity, self.kind, self.value = words[1], words[2], words[3]
         self.lines, self.more, self.is_drop = [line], 0, words[0] == "drop"
 
-    def add(self, line):
+    def add(self, line: str) -> None:
         if len(self.lines) < TOLD:
             self.lines.append(line)
         else:
@@ -25,11 +38,16 @@ class Box:
 class Goal:
     """A goal with its states: columns, the place among the changes of its column, and status numbers."""
 
-    def __init__(self, server, identifier):
+    changes: List[Tuple[int, str]]
+    feedback: List[Tuple[int, str]]
+    expired: Optional[int]
+    lane: int
+
+    def __init__(self, server: str, identifier: str) -> None:
         self.server, self.identifier = server, identifier
         self.changes, self.feedback, self.expired = [], [], None
 
-    def name(self):
+    def name(self) -> str:
         """The number of an action client, from 1, and that of its goal, or the end of the identifier."""
         number = grammar.identifier(self.identifier) if grammar.IDENTIFIER.fullmatch(self.identifier) else 0
         client, own = divmod(number, 2**64)
@@ -37,7 +55,17 @@ class Goal:
 
 
 class Scene:
-    def __init__(self, document, first, last, plotted=()):
+    series: Optional[Series]
+    columns: List[Tuple[str, str]]
+    boxes: Dict[int, Box]
+    links: List[Tuple[Origin, Box]]
+    goals: Dict[Goal, None]
+    open: Dict[Tuple[str, str], Goal]
+    box: Optional[Box]
+    before: List[Goal]
+    pending: List[Tuple[Optional[int], str, str]]
+
+    def __init__(self, document: Document, first: int, last: int, plotted: Optional[Collection[str]] = ()) -> None:
         self.first, self.last, self.flow = first, last, flow.Flow(document)
         # The series of some names, or, with None, of all; there are none without names.
         self.series = series.Series(document, self.flow, plotted) if plotted is None or plotted else None
@@ -47,17 +75,17 @@ class Scene:
         self.goals, self.open = {}, {}
         self.box, self.before, self.pending, self.rounds = None, [], [], 0
 
-    def column(self):
+    def column(self) -> int:
         return self.flow.round - self.first
 
-    def is_shown(self):
+    def is_shown(self) -> bool:
         return self.first <= self.flow.round <= self.last
 
-    def read(self, name, own):
+    def read(self, name: str, own: Own) -> None:
         """Reads a transcript that must be one of a document."""
         self.take(transcript.lines(name, own))
 
-    def take(self, lines):
+    def take(self, lines: Iterable[str]) -> None:
         for number, line in enumerate(lines, 1):
             words = line.split(" ")
             self.flow.take(number, words)
@@ -73,10 +101,10 @@ class Scene:
             if self.is_shown():
                 self.line(number, line, words)
 
-    def line(self, number, line, words):
+    def line(self, number: int, line: str, words: Words) -> None:
         if words[0] == "run":
             self.box = self.add_box(number, line, words)
-            cause = self.flow.run.cause
+            cause = self.flow.run.cause if self.flow.run else None
             if self.box and cause and words[2] != "poll":
                 self.links.append((cause, self.box))
         elif words[0] == "drop":
@@ -90,7 +118,7 @@ class Scene:
         elif self.box and words[0] not in ("round", "end", "expire"):
             self.box.add(line)
 
-    def add_box(self, number, line, words):
+    def add_box(self, number: int, line: str, words: Words) -> Optional[Box]:
         row = self.row_of.get(words[1])
         if row is None:
             return None
@@ -99,7 +127,7 @@ class Scene:
 
     # ---- goals
 
-    def goal_line(self, words):
+    def goal_line(self, words: Words) -> None:
         """A state, feedback or the expiry of a goal. Goals are followed also before the rounds that are shown."""
         key = words[1], words[2]
         goal = self.open.get(key)
@@ -118,15 +146,16 @@ class Scene:
         if self.is_shown():
             self.goals.setdefault(goal)
 
-    def shown_goals(self):
+    def shown_goals(self) -> List[Goal]:
         """The goals with a state in the rounds that are shown: those that were there before, and then those that came."""
         before = set(self.before)
         return [goal for goal in [*self.before, *(it for it in self.goals if it not in before)] if goal.changes]
 
 
-def rows_of(document):
+def rows_of(document: Document) -> Tuple[List[Row], Dict[str, int]]:
     """The rows, a callback group each that has an entity, and the row of each entity."""
-    rows, row_of = [], {}
+    rows: List[Row] = []
+    row_of: Dict[str, int] = {}
     for node in document.get("nodes", []):
         groups = [None, *(group["name"] for group in node.get("groups", []))]
         kinds = {group["name"]: group["kind"] for group in node.get("groups", [])}
@@ -136,3 +165,5 @@ def rows_of(document):
                 row_of.update((name, len(rows)) for name in names)
                 rows.append((node["name"], group, kinds.get(group, "exclusive")))
     return rows, row_of
+
+

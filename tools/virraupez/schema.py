@@ -1,5 +1,13 @@
 """The JSON Schema of documents (draft 7), made from the tables of the grammar, so that both have the same fields and forms."""
+from __future__ import annotations
+
+from . import TYPE_CHECKING
 from . import grammar as g
+
+if TYPE_CHECKING:
+    from typing import Any, Dict, Iterable, List, Tuple
+
+    from .shapes import Fields, Form
 
 ABOUT = (
     "The forms and the limits of docs/document.md, as far as a schema can say them. What it can't say: that names stand once, that "
@@ -27,7 +35,7 @@ OBJECTS = {
 NAME = "One of the names of the document: 1 to 64 characters of A-Z a-z 0-9 _ /"
 GROUP = "A callback group of the same node. Where it is missing, the node's default group, which is mutually exclusive."
 # Each field: what it says, its default where it has one, and an example where a form alone doesn't show it.
-FIELDS = {
+FIELDS: Dict[str, Tuple[str, Any, Any]] = {
     "version": ("The version of the grammar: 1, or 2, which has `order`.", None, 1),
     "order": ("The order in which the ready callbacks of a round run: by `kind`, or, after the timers, by the `arrival` of what they take. Version 2 has it.", "kind", "arrival"),
     "topics": ("The topics, for all nodes.", [], ["scan", "cmd_vel"]),
@@ -63,7 +71,7 @@ FIELDS = {
     "cancel": ("The identifier of the goal that is to be canceled, or zeros alone.", None, "00000000-0000-0000-0000-000000000000"),
     "stamp": ("Cancels goals that were accepted up to this moment; 0 is none.", 0, None),
 }
-GOAL_SCRIPT = ("The work of a goal. Each round runs it on, from behind its last wait or yield, or from its top where it fell off its end.", [], None)
+GOAL_SCRIPT: Tuple[str, Any, Any] = ("The work of a goal. Each round runs it on, from behind its last wait or yield, or from its top where it fell off its end.", [], None)
 # Each instruction: what it does.
 SAYS = {
     "set": '["set", D, O, A, B]: D becomes A O B',
@@ -96,23 +104,23 @@ IDENTIFIER = (
 )
 
 
-def ref(name):
+def ref(name: str) -> Fields:
     return {"$ref": "#/definitions/" + name.replace(" ", "_")}
 
 
-def of_range(least, most):
+def of_range(least: int, most: int) -> Fields:
     return {"type": "integer", "minimum": least, "maximum": most}
 
 
 # ---- scripts
 
 
-def chosen(choices):
+def chosen(choices: Iterable[Tuple[int, str, Fields]]) -> List[Fields]:
     """The form of an array by a word in it: each of some words with its own form, so that a message is that form's."""
     return [{"if": {"minItems": at + 1, "items": [True] * at + [{"const": word}]}, "then": form} for at, word, form in choices]
 
 
-def instruction_of(word, forms, says):
+def instruction_of(word: str, forms: str, says: str) -> Fields:
     items = [{"const": word}, *(ref(ITEMS[form]) for form in forms)]
     return {"description": says, "minItems": len(items), "maxItems": len(items), "items": items}
 
@@ -120,9 +128,9 @@ def instruction_of(word, forms, says):
 ITEMS = {"D": "cell", "O": "operation", "A": "operand", "n": "length", "T": "name", "C": "name", "K": "name", "X": "name"}
 
 
-def scripts():
+def scripts() -> Fields:
     """The definitions of instructions, and of the scripts of each role."""
-    made = {word: instruction_of(word, forms, SAYS[word]) for word, forms in g.WORDS.items()}
+    made: Fields = {word: instruction_of(word, forms, SAYS[word]) for word, forms in g.WORDS.items()}
     cancels = []
     for form, forms in g.CANCELS.items():
         items = [{"const": "cancel"}, ref("name"), {"const": form}, *(ref("operand") for _ in forms)]
@@ -135,29 +143,31 @@ def scripts():
     made["instruction"] = {"type": "array", "minItems": 1, "allOf": choices}
     for role, place in g.PLACES.items():
         lawful = [word for word in words if g.ONLY.get(word, role) == role]
-        items = {"allOf": [ref("instruction")], "items": [{"enum": lawful}]}
-        made[f"script_of_a_{role}"] = {"description": f"The instructions of {place}.", "type": "array", "maxItems": g.INSTRUCTIONS, "items": items}
+        item = {"allOf": [ref("instruction")], "items": [{"enum": lawful}]}
+        made[f"script_of_a_{role}"] = {"description": f"The instructions of {place}.", "type": "array", "maxItems": g.INSTRUCTIONS, "items": item}
     return made
 
 
 # ---- objects
 
 
-def form_of(form, name, owner):
+def form_of(form: Form, name: str, owner: str) -> Fields:
     """The schema of a field's form."""
     if form == g.SCRIPT:
         kind = next(kind for kind, of in g.ENTITIES.items() if of == owner)
         return ref(f"script_of_a_{g.SCRIPTS[kind][name]}")
     if isinstance(form, list):
         own = {"uniqueItems": True} if name == "topics" else {}
-        item = ref("name") if form == ["text"] else ref("ticks") if form == ["count"] else ref(form[0])
+        item = ref("name") if form == ["text"] else ref("ticks") if form == ["count"] else ref(str(form[0]))
         return {"type": "array", "maxItems": LONGEST.get(name, g.ENTITIES_AT_MOST), **own, "items": item}
     if name in SPECIAL:
         return SPECIAL[name]
-    return ref("name") if form == "text" else {"enum": ["exclusive", "reentrant"]} if form == "kind" else ref(form)
+    if form == "kind":
+        return {"enum": ["exclusive", "reentrant"]}
+    return ref("name" if form == "text" else form)
 
 
-SPECIAL = {
+SPECIAL: Dict[str, Fields] = {
     "version": {"enum": list(g.VERSIONS)},
     # Its form is that of documents of one version (by_version).
     "order": {},
@@ -171,10 +181,10 @@ SPECIAL = {
 }
 
 
-def field(name, form, owner):
+def field(name: str, form: Form, owner: str) -> Fields:
     says, default, example = GOAL_SCRIPT if (owner, name) == ("action server", "script") else FIELDS[name]
     of = form_of(form, name, owner)
-    made = {"description": says, **({"allOf": [of]} if "$ref" in of else of)}
+    made: Fields = {"description": says, **({"allOf": [of]} if "$ref" in of else of)}
     if default is not None:
         made["default"] = default
     if example is not None:
@@ -182,9 +192,9 @@ def field(name, form, owner):
     return made
 
 
-def object_of(owner, strict):
+def object_of(owner: str, strict: bool) -> Fields:
     fields = {name: field(name, form, owner) for name, form in g.OBJECTS[owner].items()}
-    made = {"type": "object", "required": list(g.REQUIRED[owner]), "properties": fields}
+    made: Fields = {"type": "object", "required": list(g.REQUIRED[owner]), "properties": fields}
     if owner != "document":
         made = {"description": OBJECTS[owner], **made}
     else:
@@ -193,21 +203,21 @@ def object_of(owner, strict):
     return {**made, "additionalProperties": False} if strict else made
 
 
-def by_version(strict):
+def by_version(strict: bool) -> Fields:
     """The form of `order` in documents of the version that has it. In others it is a field that isn't named."""
     has = {"properties": {"version": {"const": g.SINCE["order"]}}, "required": ["version"]}
-    made = {"if": has, "then": {"properties": {"order": {"enum": list(g.ORDERS)}}}}
+    made: Fields = {"if": has, "then": {"properties": {"order": {"enum": list(g.ORDERS)}}}}
     return {**made, "else": {"properties": {"order": False}}} if strict else made
 
 
-def entry():
+def entry() -> Fields:
     """An entry of the feed, chosen by the one of three fields that it has."""
     choices = [{"if": {"required": [name]}, "then": ref(of)} for name, of in g.FED.items()]
     one = {"description": "Exactly one of topic, goal and cancel.", "oneOf": [{"required": [name]} for name in g.FED]}
     return {"description": "What comes from outside in a round: a message, a goal request or a cancel request.", "type": "object", "allOf": [one, *choices]}
 
 
-def schema(strict=False):
+def schema(strict: bool = False) -> Fields:
     definitions = {owner.replace(" ", "_"): object_of(owner, strict) for owner in g.OBJECTS if owner != "document"}
     definitions["entry"] = entry()
     definitions.update(scripts())

@@ -1,9 +1,17 @@
 """The folder of --save: documents and transcripts of runs that break a rule."""
+from __future__ import annotations
+
 import os
 import re
 
-from . import command, document_text
+from . import TYPE_CHECKING, command, document_text
 from .difference import numbered
+
+if TYPE_CHECKING:
+    from typing import Optional, Set
+
+    from .judge import Judge
+    from .searching import Broken, Part, Search, Tally
 
 # How many runs are saved, apart from the least of each rule.
 SAVED = 100
@@ -14,21 +22,24 @@ SAVES = re.compile(r"(?:run|rule|robust)_[0-9]+\.(?:json|txt)").fullmatch
 class Folder:
     """A folder in which a search saves runs: the first that break a rule, by their numbers, and the least of each rule."""
 
-    def __init__(self, name, search, judging):
+    before: Set[str]
+    written: Set[str]
+
+    def __init__(self, name: Optional[str], search: Search, judging: Judge) -> None:
         self.name, self.search, self.judging, self.count, self.written = name, search, judging, 0, set()
         self.before = set()
         if name is not None:
             os.makedirs(name, exist_ok=True)
             self.before = {it for it in os.listdir(name) if SAVES(it)}
 
-    def add(self, part):
+    def add(self, part: Part) -> None:
         """Saves the runs of a part that break a rule."""
         for broken in part.breaks if self.name else ():
             if self.count < SAVED:
                 self.count += 1
                 self.write(f"run_{broken.number}", broken)
 
-    def end(self, tally):
+    def end(self, tally: Tally) -> None:
         """Saves the least change of each rule, and says what is in the folder."""
         if not self.name:
             return
@@ -46,11 +57,11 @@ class Folder:
         if old:
             command.note(f"search: {command.printable(self.name)} has {numbered(len(old), 'file')} of an earlier search too: {', '.join(old[:4])}{' ..' * (len(old) > 4)}")
 
-    def write(self, name, broken):
+    def write(self, name: str, broken: Broken) -> None:
         """Writes the document and the transcript of a run."""
         document = self.search.space.value(broken.taken) if broken.taken else self.search.document
         text = self.search.run(self.judging, broken.number, broken.taken)
         for ending, held in (("json", document_text.layout(document) + "\n"), ("txt", text)):
             self.written.add(f"{name}.{ending}")
-            with command.Output(os.path.join(self.name, f"{name}.{ending}")) as out:
+            with command.Output(os.path.join(self.name or "", f"{name}.{ending}")) as out:
                 out.write(held)

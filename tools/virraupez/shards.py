@@ -1,24 +1,33 @@
 """A search in parts: a shard runs every N-th variation and writes a line of JSON for each run that breaks a rule. Joined, shards
 give what one search gives."""
+from __future__ import annotations
+
 import collections
 import json
 
-from . import command, searching
+from . import TYPE_CHECKING, command, searching
+
+if TYPE_CHECKING:
+    from typing import Any, Counter, Dict, Iterator, Optional, Sequence, Tuple
+
+    from .shapes import Fields, Out
 
 
 class Lines:
     """Writes what a shard finds, a line of JSON for each run that breaks a rule, between a line that says what is searched and one
     that says how much of it was run."""
 
-    def __init__(self, made, shard, by, out):
+    counts: Dict[str, Counter[int]]
+
+    def __init__(self, made: searching.Search, shard: Tuple[int, int], by: Dict[str, str], out: Out) -> None:
         self.out, self.changes = out, made.space.changes
         self.runs, self.broken, self.counts = 0, 0, {name: collections.Counter() for name in searching.COUNTED}
         self.line({"search": made.plan, "by": by, "shard": shard[0], "of": shard[1]})
 
-    def line(self, value):
+    def line(self, value: Fields) -> None:
         self.out.line(json.dumps(value, separators=(",", ":")))
 
-    def add(self, part):
+    def add(self, part: searching.Part) -> None:
         self.runs += part.runs
         for name, counts in self.counts.items():
             counts.update(getattr(part, name))
@@ -28,17 +37,24 @@ class Lines:
         if part.breaks:
             self.out.flush()
 
-    def end(self, is_whole):
+    def end(self, is_whole: bool) -> None:
         self.line({"runs": self.runs, "broken": self.broken, **self.counts, "whole": is_whole})
 
 
 class Joined:
     """What shards wrote, as one search."""
 
-    def __init__(self):
-        self.plan, self.by, self.tally, self.of, self.seen, self.open, self.broken = None, None, None, 0, {}, None, 0
+    plan: Optional[Fields]
+    # By what the shards were run, and what they found, once there is a plan.
+    by: Dict[str, str]
+    tally: searching.Tally
+    seen: Dict[int, bool]
+    open: Optional[int]
 
-    def take(self, name, number, line):
+    def __init__(self) -> None:
+        self.plan, self.of, self.seen, self.open, self.broken = None, 0, {}, None, 0
+
+    def take(self, name: str, number: int, line: str) -> None:
         """Takes a line of a file. A line without its end is the last of a shard that was stopped, and says nothing."""
         try:
             self.value(json.loads(line))
@@ -49,23 +65,23 @@ class Joined:
         except Wrong as wrong:
             raise command.Trouble(f"{command.place(name, number)}{wrong}") from None
 
-    def value(self, value):
+    def value(self, value: Any) -> None:
         if "search" in value:
             self.begin(value["search"], value["by"], value["shard"], value["of"])
         elif self.open is None:
             raise Wrong("a line before the first line of its shard")
         elif "run" in value:
             self.broken += 1
-            taken = [tuple(it) for it in value["taken"]]
-            self.tally.take(searching.Broken(value["run"], taken, [tuple(it) for it in value["breaks"]]))
+            taken = [(at, option) for at, option in value["taken"]]
+            self.tally.take(searching.Broken(value["run"], taken, [(at, says) for at, says in value["breaks"]]))
         else:
             if value["broken"] != self.broken:
                 raise Wrong(f"the shard {self.open} found {value['broken']} runs that break a rule, and {self.broken} are there")
-            counted = [collections.Counter({int(at): count for at, count in value[it].items()}) for it in searching.COUNTED]
-            self.tally.add(searching.Part(value["runs"], *counted, ()))
+            unmet, undecided, changed = (collections.Counter({int(at): count for at, count in value[it].items()}) for it in searching.COUNTED)
+            self.tally.add(searching.Part(value["runs"], unmet, undecided, changed, ()))
             self.seen[self.open], self.open = value["whole"], None
 
-    def begin(self, plan, by, shard, of):
+    def begin(self, plan: Fields, by: Dict[str, str], shard: int, of: int) -> None:
         if self.plan is None:
             self.plan, self.by, self.of = plan, by, of
             self.tally = searching.Tally(searching.Search(plan))
@@ -78,12 +94,12 @@ class Joined:
         self.end()
         self.seen[shard], self.open, self.broken = False, shard, 0
 
-    def end(self):
+    def end(self) -> None:
         """Ends a shard. One without its last line doesn't say how much of it was run."""
         if self.open is not None:
             self.tally.is_counted, self.open = False, None
 
-    def missing(self):
+    def missing(self) -> Iterator[str]:
         """What isn't there of a search, a line each."""
         absent = [it for it in range(1, self.of + 1) if it not in self.seen]
         if absent:
@@ -94,7 +110,7 @@ class Joined:
             yield f"the shard{'s' * (len(cut) > 1)} {', '.join(map(str, cut[:20]))} of {self.of} ended before all its runs were made"
 
 
-def described(by):
+def described(by: Dict[str, str]) -> str:
     """What ran a shard: the version of the command, and the program's sum, or the executor in Python."""
     return f"{by['program'][:80]} of version {by['version'][:20]}"
 
@@ -103,7 +119,7 @@ class Wrong(Exception):
     """What is wrong with a line of a shard."""
 
 
-def join(names):
+def join(names: Sequence[str]) -> Joined:
     """Joins files of shards."""
     joined = Joined()
     for name in names:

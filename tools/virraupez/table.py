@@ -1,8 +1,19 @@
 """The report of a search: which rules break in how many runs, the least change that breaks each, and where it breaks."""
+from __future__ import annotations
+
 import fractions
 
-from . import judge, junit, report, rules, searching
+from . import TYPE_CHECKING, judge, junit, report, rules, searching
 from .difference import numbered
+
+if TYPE_CHECKING:
+    from typing import Container, Dict, Iterator, Sequence, Tuple
+
+    from .rules import Rule
+    from .searching import Found, Search, Tally
+    from .shapes import Paint
+
+    Silent = Sequence[Tuple[int, str]]
 
 # How many changes of a run are reported, how many choices of a rule, and how many ranges of a choice.
 CHANGES, CHOICES, RANGES = 8, 4, 12
@@ -10,7 +21,7 @@ CHANGES, CHOICES, RANGES = 8, 4, 12
 SELDOM = 5
 
 
-def lines(tally, paint, end="", accepted=()):
+def lines(tally: Tally, paint: Paint, end: str = "", accepted: Container[str] = ()) -> Iterator[str]:
     """The table of a search. The end says why not all was run, if so. Accepted is what a rule may be in all runs."""
     for at, rule in enumerate(tally.search.rules):
         yield from broken(tally, at, rule, paint)
@@ -20,7 +31,7 @@ def lines(tally, paint, end="", accepted=()):
     yield paint("fine" if tally.first is None and not silent and not end else "fault", summary(tally, silent, end))
 
 
-def broken(tally, at, rule, paint):
+def broken(tally: Tally, at: int, rule: Rule, paint: Paint) -> Iterator[str]:
     """What is reported of a rule that a run broke."""
     if tally.own and at in dict(tally.own.breaks):
         yield head(rule, paint, "breaks without a change")
@@ -29,7 +40,7 @@ def broken(tally, at, rule, paint):
         yield from of_rule(tally, at, paint)
 
 
-def cases(tally, accepted):
+def cases(tally: Tally, accepted: Container[str]) -> Iterator[junit.Case]:
     """The case of each rule for JUnit: one that a run broke, or of which the runs say nothing, doesn't pass."""
     silent = dict(tally.silent(accepted))
     for at, rule in enumerate(tally.search.rules):
@@ -39,11 +50,11 @@ def cases(tally, accepted):
         yield junit.of_rule(rule, tally.search.plan["rules"] or "", outcome, lines)
 
 
-def head(rule, paint, says, colour="fault"):
+def head(rule: Rule, paint: Paint, says: str, colour: str = "fault") -> str:
     return f"{paint('place', rule.place)}{paint(colour, says)}: {rule.text}"
 
 
-def of_rule(tally, at, paint):
+def of_rule(tally: Tally, at: int, paint: Paint) -> Iterator[str]:
     """The report of a rule that a variation broke."""
     search, found = tally.search, tally.found[at]
     count = f"breaks in {found.count} of {numbered(tally.runs, 'run')}" if tally.is_counted else f"breaks in {numbered(found.count, 'run')}"
@@ -63,7 +74,7 @@ def of_rule(tally, at, paint):
         yield from where(tally, found)
 
 
-def where(tally, found):
+def where(tally: Tally, found: Found) -> Iterator[str]:
     """The options with which a rule breaks, of the choices that are likely causes."""
     often = likely(tally, found) if tally.is_counted else {}
     choices = sorted(often, key=lambda it: (-often[it], it))
@@ -76,7 +87,7 @@ def where(tally, found):
         yield f"  and {len(choices) - CHOICES} choices more"
 
 
-def likely(tally, found):
+def likely(tally: Tally, found: Found) -> Dict[int, fractions.Fraction]:
     """The choices that runs which break a rule have changed more often than all runs have, with how many times as often; and those
     that every run changes, if not all of their options break the rule."""
     choices = tally.search.space.choices
@@ -88,7 +99,7 @@ def likely(tally, found):
     return often
 
 
-def remarks(tally, paint):
+def remarks(tally: Tally, paint: Paint) -> Iterator[str]:
     """Rules that were about nothing in all runs, and those that the end of a run left open."""
     for at, rule in enumerate(tally.search.rules):
         if tally.runs and tally.unmet[at] == tally.runs:
@@ -99,7 +110,7 @@ def remarks(tally, paint):
             yield head(rule, paint, f"undecided in {tally.undecided[at]} of {numbered(tally.runs, 'run')}", "warning")
 
 
-def summary(tally, silent, end):
+def summary(tally: Tally, silent: Silent, end: str) -> str:
     made = tally.search
     kind = "all there are" if made.is_whole else f"drawn with the seed {made.plan['seed']}"
     runs = f"{numbered(tally.runs, 'run')}, {kind}" if tally.runs == made.runs else f"{tally.runs} of {numbered(made.runs, 'run')}"
@@ -112,7 +123,7 @@ def summary(tally, silent, end):
     return f"{runs}: {broken}{open_ends(made, silent)}{end}"
 
 
-def open_ends(made, silent):
+def open_ends(made: Search, silent: Silent) -> str:
     """What the last line says of rules of which the runs say nothing."""
     told = ""
     for why in (searching.UNDECIDED, searching.NOTHING):
@@ -121,3 +132,5 @@ def open_ends(made, silent):
             more = f" and {len(names) - CHOICES} more" if len(names) > CHOICES else ""
             told += f"; {why}: {', '.join(names[:CHOICES])}{more}"
     return told
+
+

@@ -1,10 +1,20 @@
 """Transcripts as streams of lines. Each line is checked by docs/transcript.md: its words, the form of each, and its place."""
+from __future__ import annotations
+
 import copy
 import functools
 import io
 import re
 
-from . import command, grammar
+from . import TYPE_CHECKING, command, grammar
+
+if TYPE_CHECKING:
+    from typing import Callable, Dict, FrozenSet, Iterator, List, Mapping, Match, NoReturn, Optional, Tuple, Union
+
+    from .fit import Own
+    from .shapes import Readable
+
+    Form = Union["Number", "Name", "Identifier", "Kind"]
 
 # The words of callbacks, in the order of their kinds.
 KINDS = ("timer", "message", "request", "reply", "goal", "cancel", "ask", "poll", "response", "code", "feedback", "result")
@@ -25,19 +35,21 @@ LEAST, MOST, GOALS = -(2**63), 2**63 - 1, 1024
 class Number:
     """A number of some, given as a range or a set. Names may stand for some of them in rules."""
 
-    def __init__(self, says, values, names=()):
+    def __init__(self, says: str, values: Union[range, FrozenSet[int]], names: Mapping[str, int] = {}) -> None:
         self.says, self.values, self.names = says, values, dict(names)
         ends = sorted(values) if isinstance(values, frozenset) else values
         self.low, self.high = ends[0], ends[-1]
 
-    def meets(self, other):
+    def meets(self, other: Form) -> bool:
         """Whether a number is of both."""
-        few = self.values if isinstance(self.values, frozenset) else getattr(other, "values", ())
+        if not isinstance(other, Number):
+            return False
+        few = self.values if isinstance(self.values, frozenset) else other.values
         if isinstance(few, frozenset):
-            return isinstance(other, Number) and any(it in self.values and it in other.values for it in few)
-        return isinstance(other, Number) and max(self.low, other.low) <= min(self.high, other.high)
+            return any(it in self.values and it in other.values for it in few)
+        return max(self.low, other.low) <= min(self.high, other.high)
 
-    def regex(self, exact):
+    def regex(self, exact: bool) -> str:
         """The regular expression of its numbers. One that isn't exact takes all of 19 digits too, and is short."""
         if isinstance(self.values, frozenset):
             return f"(?:{'|'.join(map(str, sorted(self.values)))})"
@@ -47,7 +59,7 @@ class Number:
         return f"(?:{'|'.join(parts)})" if self.low != 1 else f"(?:{up_to(self.high, least=1)})"
 
 
-def up_to(most, least=0):
+def up_to(most: int, least: int = 0) -> str:
     """The regular expression of the decimal numbers up to one, from 0 or 1."""
     digits = str(most)
     parts = ["0"] * (least == 0) + [f"[1-9][0-9]{{0,{len(digits) - 2}}}"] * (len(digits) > 1)
@@ -61,43 +73,43 @@ def up_to(most, least=0):
 class Name:
     """The name of a topic, or of an entity of some kinds."""
 
-    def __init__(self, *kinds):
+    def __init__(self, *kinds: str) -> None:
         self.kinds = frozenset(kinds)
         nouns = ["topic" if kind == "topics" else grammar.ENTITIES[kind] for kind in kinds]
         self.says = "the name of " + ("an entity" if len(kinds) > 2 else " or ".join(map(article, nouns)))
 
-    def meets(self, other):
+    def meets(self, other: Form) -> bool:
         """Whether a name may be of both: topics and all entities share one set of names."""
         return isinstance(other, Name) and bool(self.kinds & other.kinds)
 
-    def regex(self, _exact):
+    def regex(self, _exact: bool) -> str:
         return grammar.NAME.pattern
 
 
 class Identifier:
     says = "an identifier: 8-4-4-4-12 hexadecimal digits"
 
-    def meets(self, other):
+    def meets(self, other: Form) -> bool:
         return isinstance(other, Identifier)
 
-    def regex(self, _exact):
+    def regex(self, _exact: bool) -> str:
         return "[0-9a-f]{8}-[0-9a-f]{4}-[0-9a-f]{4}-[0-9a-f]{4}-[0-9a-f]{12}"
 
 
 class Kind:
     """The word of a kind of callback."""
 
-    def __init__(self, word):
+    def __init__(self, word: str) -> None:
         self.word, self.says = word, f"the kind {word}"
 
-    def meets(self, other):
+    def meets(self, other: Form) -> bool:
         return isinstance(other, Kind) and self.word == other.word
 
-    def regex(self, _exact):
+    def regex(self, _exact: bool) -> str:
         return self.word
 
 
-def article(noun):
+def article(noun: str) -> str:
     return f"{'an' if noun[0] in 'aeiou' else 'a'} {noun}"
 
 
@@ -116,7 +128,7 @@ ID = Identifier()
 TOPIC, SERVICE, CLIENT = Name("topics"), Name("services"), Name("clients")
 SERVER, ASKER, ENTITY = Name("actions"), Name("action_clients"), Name(*grammar.ENTITIES)
 # What a callback of each kind is of, its `in` and its `aux`.
-CALLBACKS = {
+CALLBACKS: Dict[str, Tuple[Name, Number, Number]] = {
     "timer": (Name("timers"), MOMENT, ZERO),
     "message": (Name("subscriptions"), VALUE, ZERO),
     "request": (SERVICE, VALUE, ZERO),
@@ -131,7 +143,7 @@ CALLBACKS = {
     "result": (ASKER, VALUE, STATUS),
 }
 # The forms of a line's words behind its first, one tuple for each shape that the line has.
-FORMS = {
+FORMS: Dict[str, List[Tuple[Form, ...]]] = {
     "round": [(ROUND, MOMENT)],
     "expire": [(SERVER, ID)],
     "run": [(of, Kind(kind), *given, *[ID] * (kind in IDENTIFIED)) for kind, (of, *given) in CALLBACKS.items()],
@@ -157,7 +169,7 @@ WORDS = tuple(FORMS)
 # ---- reading
 
 
-def regex(word, exact=True):
+def regex(word: str, exact: bool = True) -> str:
     """The regular expression of the lines of a first word."""
     shapes = [[form.regex(exact) for form in forms] for forms in FORMS[word]]
     # What all shapes begin with is tried once, and not once a shape.
@@ -167,11 +179,11 @@ def regex(word, exact=True):
 
 
 @functools.lru_cache(None)
-def check(word):
+def check(word: str) -> Callable[[str], Optional[Match[str]]]:
     return re.compile(regex(word)).fullmatch
 
 
-def is_line(line):
+def is_line(line: str) -> bool:
     """Whether a line has the form of one of a transcript."""
     word = line.split(" ", 1)[0]
     return word in FORMS and bool(check(word)(line))
@@ -183,7 +195,7 @@ ALL = re.compile("(?:(?:" + "|".join(regex(word, False) for word in (*FREQUENT, 
 LONG = re.compile("[0-9]{19}").search
 
 
-def have_forms(block):
+def have_forms(block: str) -> bool:
     """Whether each line of a block has its form. Few blocks have numbers of 19 digits, which are asked of line by line."""
     return bool(ALL(block)) and (not LONG(block) or all(map(is_line, block.split("\n")[:-1])))
 
@@ -191,19 +203,19 @@ def have_forms(block):
 BLOCK = 1 << 16
 
 
-def lines(name, own=None):
+def lines(name: str, own: Optional[Own] = None) -> Iterator[str]:
     """The lines of a file, checked, to the line `end`, without their line feeds."""
     for block in blocks(name, own):
         yield from block.split("\n")[:-1]
 
 
-def blocks(name, own=None):
+def blocks(name: str, own: Optional[Own] = None) -> Iterator[str]:
     """The lines of a file by blocks of whole lines, checked."""
     with io.TextIOWrapper(command.source(name), encoding="latin-1", newline="\n") as stream:
         yield from checked(stream, name, own)
 
 
-def checked(stream, name, own=None):
+def checked(stream: Readable, name: str, own: Optional[Own] = None) -> Iterator[str]:
     """The blocks of a stream, checked: the form of each line, the order of rounds to the end, and what a document's own lines
     must be. A block is tried as a whole, and line by line if something is wrong in it."""
     order, number, rest = Order(name, own), 0, ""
@@ -217,7 +229,7 @@ def checked(stream, name, own=None):
         before = copy.copy(order)
         is_own = own is not None and own.follows(block, number)
         if own is not None and own.is_strict and not is_own:
-            before.demand_own(block, number)
+            before.demand_own(own, block, number)
         if not is_own and not have_forms(block) or not order.takes(block, is_own) or len(rest) > LONGEST:
             before.demand(block + rest, number)
         if block:
@@ -238,12 +250,14 @@ class Order:
     """The order of a transcript: rounds from 1 on at moments that don't go back, then calls that are pending, then the end; and
     whether it is one of a document, if that is given."""
 
-    def __init__(self, name, own=None):
+    only: Optional[Tuple[str, ...]]
+
+    def __init__(self, name: str, own: Optional[Own] = None) -> None:
         self.name, self.own, self.round, self.moment, self.is_over = name, own, 0, 0, False
         # The first words of lines that may follow, if not all may.
         self.only = ("round ", "end ")
 
-    def takes(self, block, is_own=False):
+    def takes(self, block: str, is_own: bool = False) -> bool:
         """Takes a block of lines that have their forms, and tells whether they may stand there. Names are right in the document's own."""
         at = 0
         for found in ORDERED("\n" + block):
@@ -252,10 +266,10 @@ class Order:
             at = found.end()
         return (at == len(block) or self.allows(block, at)) and (self.own is None or is_own or self.own.fits(block))
 
-    def allows(self, block, at):
+    def allows(self, block: str, at: int) -> bool:
         return self.only is None or block.startswith(self.only, at)
 
-    def step(self, line):
+    def step(self, line: str) -> str:
         """Takes a line that says where in the run one is, and gives what is wrong with it."""
         word, *numbers = line.split(" ")
         if word == "pending":
@@ -273,7 +287,7 @@ class Order:
 
     # ---- what is wrong
 
-    def demand(self, text, number):
+    def demand(self, text: str, number: int) -> None:
         """Takes lines one by one to the first that is wrong, which is told."""
         for number, line in enumerate(LINES(text), number + 1):
             bare, word = line.rstrip("\n"), line.split(" ", 1)[0]
@@ -283,16 +297,16 @@ class Order:
             if says:
                 raise self.trouble(number, says)
 
-    def demand_own(self, block, number):
+    def demand_own(self, own: Own, block: str, number: int) -> NoReturn:
         """Tells the line of a block that strays from the document's run: as a line that is none or that can't stand there, if it is."""
-        at = self.own.strayed[0]
+        at = own.strayed[0] if own.strayed else number + 1
         self.demand("".join(LINES(block)[: at - number]), number)
-        raise self.trouble(at, self.own.stray())
+        raise self.trouble(at, own.stray())
 
-    def trouble(self, number, says):
+    def trouble(self, number: int, says: str) -> command.Trouble:
         return command.Trouble(f"{command.place(self.name, number)}{says}")
 
-    def wrong(self, number, line):
+    def wrong(self, number: int, line: str) -> command.Trouble:
         """The trouble with a line that no transcript has there."""
         word = line.split(" ", 1)[0]
         if self.is_over:
@@ -305,8 +319,10 @@ class Order:
             return self.trouble(number, f"a line `{word}` {'after a call that is pending' if self.round else 'before the first round'}")
         return self.trouble(number, f"no line of a transcript: {line[:100].rstrip(chr(10))!r}")
 
-    def cut(self, number):
+    def cut(self, number: int) -> command.Trouble:
         """What is missing at the end of a file, if it is cut off."""
         if not number:
             return command.Trouble(f"{command.shown(self.name)}: empty, and no transcript: the program has refused the document, or didn't run")
         return self.trouble(number + 1, f"the line `end` is missing: the transcript is cut off in round {self.round} at moment {self.moment}")
+
+

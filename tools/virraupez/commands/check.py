@@ -4,18 +4,26 @@
 
 It runs the documents themselves, so no verdict is of an old run. A rule that isn't decided, and one that is about nothing in all
 documents, doesn't pass. With --update golden transcripts are renewed, and what changed is shown. docs/check.md has more."""
+from __future__ import annotations
+
 import os
 import pathlib
 import shlex
 
-from .. import checker, command, fit, flow, judge, junit, report, rulebook, rules, runs, verdict
+from .. import TYPE_CHECKING, checker, command, fit, flow, judge, junit, report, rulebook, rules, runs, verdict
 from . import explain, holds, search
+
+if TYPE_CHECKING:
+    import argparse
+    from typing import List, Optional
+
+    from ..shapes import Document, Runner
 
 STATUS = """There is one verdict a document, in a line: 'DOCUMENT: passes: ..' or 'DOCUMENT: fails: ..'. The status is 0 if all pass, 1 if
 one fails, and 2 if a file is wrong or can't be read, or a document can't be run."""
 
 
-def parser(prog=None):
+def parser(prog: Optional[str] = None) -> command.Parser:
     made = command.parser(__doc__, STATUS, prog)
     made.add_argument("documents", metavar="DOCUMENT", nargs="*", default=[], help="a document; - is standard input")
     command.name_document(made, "a document, before the others")
@@ -30,7 +38,7 @@ def parser(prog=None):
     return made
 
 
-def run(asked, out):
+def run(asked: argparse.Namespace, out: command.Output) -> int:
     command.join_documents(asked)
     demand_words(asked)
     text = command.text_of(asked.rules) if asked.rules else ""
@@ -57,12 +65,12 @@ def run(asked, out):
     return command.FINE if all(it.passes for it in verdicts) else command.FOUND
 
 
-def as_case(made, case):
+def as_case(made: verdict.Verdict, case: verdict.Case) -> junit.Case:
     name = case.name if case.of == verdict.RULE else f"{case.of}: {case.name}"
     return junit.Case(name, "", 0, case.outcome, [] if made.is_fine(case) else case.lines or [case.outcome])
 
 
-def demand_words(asked):
+def demand_words(asked: argparse.Namespace) -> None:
     if not asked.rules and not asked.golden:
         raise command.Trouble("nothing to check: --rules gives a file of rules, and --golden the transcript that the run must have")
     if asked.update and not asked.golden:
@@ -76,7 +84,7 @@ def demand_words(asked):
 # ---- cases
 
 
-def judged(asked, name, program, text, made):
+def judged(asked: argparse.Namespace, name: str, program: Runner, text: str, made: verdict.Verdict) -> None:
     """Adds the cases of a document to its verdict."""
     given = explain.given_by(name)
     told = report.Report(given)
@@ -98,14 +106,14 @@ def judged(asked, name, program, text, made):
         add_search(asked, name, made)
 
 
-def transcript_of(name, program, given):
+def transcript_of(name: str, program: Runner, given: bytes) -> str:
     try:
         return program.transcript(given)
     except runs.Refused as refused:
         raise command.Trouble(f"{command.shown(name)}: refused {refused}") from None
 
 
-def add_golden(asked, name, document, ran, made):
+def add_golden(asked: argparse.Namespace, name: str, document: Document, ran: str, made: verdict.Verdict) -> None:
     """Compares a run with its golden transcript, which is renewed if that is asked for."""
     golden = asked.golden
     if os.path.isdir(golden):
@@ -124,22 +132,24 @@ def add_golden(asked, name, document, ran, made):
 class Lines:
     """The lines that a command writes, kept."""
 
-    def __init__(self):
+    lines: List[str]
+
+    def __init__(self) -> None:
         self.lines = []
 
-    def line(self, text=""):
+    def line(self, text: str = "") -> None:
         self.lines.append(text)
 
-    def flush(self):
+    def flush(self) -> None:
         """All is kept."""
 
     keep = flush
 
-    def paint(self, _colour, text):
+    def paint(self, _colour: str, text: str) -> str:
         return text
 
 
-def add_search(asked, name, made):
+def add_search(asked: argparse.Namespace, name: str, made: verdict.Verdict) -> None:
     """Searches a document with the words that are given."""
     accepted = [f"--accept-{'undecided' if it == rules.UNDECIDED else 'nothing'}" for it in asked.accepted]
     words = [name, "--rules", asked.rules, *accepted, *["--reference"] * asked.reference, *shlex.split(asked.search)]

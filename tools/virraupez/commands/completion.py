@@ -1,7 +1,13 @@
 """completion: writes what completes the words of virraupez in a shell: its commands, their options, and files.
 
 In ~/.bashrc stands `eval "$(./virraupez completion bash)"`, and in ~/.zshrc, after compinit, the same with zsh."""
-from .. import command, vocabulary
+from __future__ import annotations
+
+from .. import TYPE_CHECKING, command, vocabulary
+
+if TYPE_CHECKING:
+    import argparse
+    from typing import Iterator, List, Optional
 
 BASH = """# The words of virraupez in bash; made by `virraupez completion bash`.
 _virraupez() {{
@@ -50,19 +56,19 @@ SHELLS = ("bash", "zsh")
 NAMES_OF_FILES = ("FILE", "DOCUMENT", "RULES", "DIR")
 
 
-def parser(prog=None):
+def parser(prog: Optional[str] = None) -> command.Parser:
     made = command.parser(__doc__, "The status is 0, and 2 if the text can't be written.", prog)
     made.add_argument("shell", metavar="SHELL", choices=SHELLS, help=f"{' or '.join(SHELLS)}")
     return made
 
 
-def run(asked, out):
+def run(asked: argparse.Namespace, out: command.Output) -> int:
     all_commands = vocabulary.all_commands()
     out.write(bash(all_commands) if asked.shell == "bash" else zsh(all_commands))
     return command.FINE
 
 
-def bash(all_commands):
+def bash(all_commands: List[vocabulary.Command]) -> str:
     rows = []
     for it in all_commands:
         options = " ".join(name for option in it.options for name in option.names)
@@ -71,13 +77,13 @@ def bash(all_commands):
     return BASH.format(commands=" ".join(it.name for it in all_commands), rows="\n".join(rows))
 
 
-def zsh(all_commands):
+def zsh(all_commands: List[vocabulary.Command]) -> str:
     names = "\n".join(f"    {quoted(it.name + ':' + it.says)}" for it in all_commands)
     rows = "\n".join(f"    {it.name}) _arguments {' '.join(quoted(spec) for spec in specs(it))} ;;" for it in all_commands)
     return ZSH.format(names=names, rows=rows)
 
 
-def specs(it):
+def specs(it: vocabulary.Command) -> Iterator[str]:
     """What _arguments of zsh takes for each option and place of a command."""
     for option in it.options:
         for name in option.names:
@@ -88,10 +94,10 @@ def specs(it):
         yield f"{'*' if place.often else number}:{place.takes}:{what}"
 
 
-def bare(text):
+def bare(text: str) -> str:
     """A text without signs that _arguments takes for its own."""
     return text.replace("[", "(").replace("]", ")").replace(":", ";")
 
 
-def quoted(text):
+def quoted(text: str) -> str:
     return "'" + text.replace("'", "'\\''") + "'"

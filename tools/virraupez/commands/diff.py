@@ -2,15 +2,21 @@
 its document it tells also what the callback took: the publication, call or goal of an earlier round.
 
 Rounds are matched by their moments: a round that one of the two has alone is one difference."""
+from __future__ import annotations
+
 import sys
 
-from .. import command, difference, fit, flow, grammar
+from .. import TYPE_CHECKING, command, difference, fit, flow, grammar
+
+if TYPE_CHECKING:
+    import argparse
+    from typing import List, Optional
 
 STATUS = """The status is 0 if they are the same, 1 if they differ, and 2 if one can't be read or is cut off, or isn't a run of its
 document. Of one document for both, at least one must be a run."""
 
 
-def parser(prog=None):
+def parser(prog: Optional[str] = None) -> command.Parser:
     made = command.parser(__doc__, STATUS, prog)
     made.add_argument("document", metavar="DOCUMENT", nargs="?", help="the document of both; - is standard input")
     made.add_argument("one", metavar="A", help="a transcript; - is standard input")
@@ -20,7 +26,7 @@ def parser(prog=None):
     return made
 
 
-def run(asked, out):
+def run(asked: argparse.Namespace, out: command.Output) -> int:
     named = [*filter(None, [asked.document]), *asked.named]
     if len(named) > 2:
         raise command.Trouble("at most two documents")
@@ -30,9 +36,10 @@ def run(asked, out):
     own = [fit.Own(name, document, not is_shared) for name, document in zip(named * 2, documents * 2)][:2]
     flows = list(map(flow.Flow, documents))
     found = difference.Difference((asked.one, asked.other), flows, sys.maxsize if asked.all else difference.TOLD)
-    found.read(own or [None, None])
+    known: List[Optional[fit.Own]] = [*own, None, None]
+    found.read(known[:2])
     if is_shared and not found.trouble and own[0].strayed and own[1].strayed:
-        found.trouble = command.Trouble(*(command.place(side.name, it.strayed[0]) + it.stray() for side, it in zip(found.sides, own)))
+        found.trouble = command.Trouble(*(command.place(side.name, it.strayed[0]) + it.stray() for side, it in zip(found.sides, own) if it.strayed))
     for line in found.lines(out.paint):
         out.line(line)
     for side, it in zip(found.sides, own):

@@ -3,17 +3,25 @@
 Where the program refuses a document, the first line begins 'FILE:LINE:COLUMN: refused CODE (Name): PATH'. Faults of greater
 codes come after it, and then warnings: what no code refuses and nobody means. A document that the program runs is told
 'not refused', with its warnings. docs/explain.md has more."""
+from __future__ import annotations
+
 import gc
 import json
 import sys
 
-from .. import command, cuts, faults, grammar, listing, report, sarif
+from .. import TYPE_CHECKING, command, cuts, faults, grammar, listing, report, sarif
+
+if TYPE_CHECKING:
+    import argparse
+    from typing import Iterator, List, Optional
+
+    from ..shapes import Document
 
 STATUS = """The status is 0 if no document is refused, 1 if one is, and 2 if one can't be read. With --warnings-are-errors it is 1 for a
 warning too."""
 
 
-def parser(prog=None):
+def parser(prog: Optional[str] = None) -> command.Parser:
     made = command.parser(__doc__, STATUS, prog)
     made.add_argument("documents", metavar="DOCUMENT", nargs="+", help="a document; - is standard input")
     form = made.add_mutually_exclusive_group()
@@ -25,7 +33,7 @@ def parser(prog=None):
     return made
 
 
-def given_by(name):
+def given_by(name: str) -> bytes:
     """The bytes of a document, by its name."""
     with command.source(name) as stream:
         given = stream.read(grammar.MOST_BYTES + 1)
@@ -34,7 +42,7 @@ def given_by(name):
     return given
 
 
-def scripts(document):
+def scripts(document: Document) -> Iterator[str]:
     """The lines of each script of a document, below the place and the name of what it is of."""
     for path in cuts.scripts(document):
         yield f"{faults.path_text(path)} of {cuts.part(document, path[:-1])['name']}:"
@@ -42,9 +50,10 @@ def scripts(document):
         yield from listing.lines_of(instructions) or map(json.dumps, instructions)
 
 
-def run(asked, out):
+def run(asked: argparse.Namespace, out: command.Output) -> int:
     gc.disable()  # a document is read into no cycles, and looking for them takes a third of the time
-    status, wrong, all_told = command.FINE, [], []
+    status, all_told = command.FINE, []
+    wrong: List[str] = []
     for name in asked.documents:
         try:
             given = given_by(name)

@@ -3,13 +3,20 @@
   ./virraupez feed drive --topic /battery:battery --field percentage --scale 100 --tick 20ms --document nav.json -o recorded.json
 
 The bag is one of rosbag2 with the storage sqlite3 or MCAP. --field and --scale are of the topic before them. Without --topic the topics of
-the bag are listed. docs/feed.md has more."""
+the bag are listed. docs/tools.md has more."""
+from __future__ import annotations
+
 import argparse
 import decimal
 import json
 import re
 
-from .. import bag, cdr, command, difference, document_text, feed_entries, fit, flow, grammar, hints, interfaces, pattern, ticks
+from .. import TYPE_CHECKING, bag, cdr, command, difference, document_text, feed_entries, fit, flow, grammar, hints, interfaces, pattern, ticks
+
+if TYPE_CHECKING:
+    from typing import Any, Optional
+
+    from ..bag import AnyBag
 
 STATUS = "The status is 0, and 2 if the bag, the document or a message can't be read."
 
@@ -17,24 +24,24 @@ STATUS = "The status is 0, and 2 if the bag, the document or a message can't be 
 class Begun(argparse.Action):
     """Begins a topic or an action of the bag, with the name that it has in the document."""
 
-    def __call__(self, parser, asked, value, option=None):
+    def __call__(self, parser: argparse.ArgumentParser, asked: argparse.Namespace, value: Any, option: Optional[str] = None) -> None:
         name, _, own = value.partition(":")
-        made, noun = (feed_entries.Action, "an action") if option == "--action" else (feed_entries.Topic, "a topic")
+        made, noun, kind = (feed_entries.Action, "an action", "ACTION") if option == "--action" else (feed_entries.Topic, "a topic", "TOPIC")
         if not grammar.NAME.fullmatch(own or name):
-            parser.error(f"argument {option}: {(own or name)[:60]!r} can't be the name of {noun} in a document; {option} NAME:{option[2:].upper()} gives it another")
+            parser.error(f"argument {option}: {(own or name)[:60]!r} can't be the name of {noun} in a document; {option} NAME:{kind} gives it another")
         asked.sources = [*(asked.sources or []), made(name, own or name)]
 
 
 class OfTopic(argparse.Action):
     """What is said of the topic before."""
 
-    def __call__(self, parser, asked, value, option=None):
+    def __call__(self, parser: argparse.ArgumentParser, asked: argparse.Namespace, value: Any, option: Optional[str] = None) -> None:
         if not asked.sources:
             parser.error(f"argument {option}: it is of the topic before it, and there is none")
         setattr(asked.sources[-1], self.dest, value)
 
 
-def parser(prog=None):
+def parser(prog: Optional[str] = None) -> command.Parser:
     made = command.parser(__doc__, STATUS, prog)
     made.add_argument("bag", metavar="BAG", help="the folder of a bag, or its file NAME.db3 or NAME.mcap")
     made.add_argument("--topic", metavar="NAME:TOPIC", dest="sources", action=Begun, help="a topic of the bag, and its name in the document if that is another")
@@ -48,13 +55,13 @@ def parser(prog=None):
     return made
 
 
-def scale(text):
+def scale(text: str) -> decimal.Decimal:
     if not re.fullmatch("-?[0-9]{1,18}(?:[.][0-9]{1,18})?", text) or not decimal.Decimal(text):
         raise argparse.ArgumentTypeError(f"a number as 1000 or 0.5, and not {text[:40]!r}")
     return decimal.Decimal(text)
 
 
-def run(asked, out):
+def run(asked: argparse.Namespace, out: command.Output) -> int:
     found = bag.read(asked.bag)
     if asked.types:
         found.types.add_missing(interfaces.definitions(asked.types))
@@ -78,17 +85,17 @@ def run(asked, out):
     return command.FINE
 
 
-def listed(found, out):
+def listed(found: AnyBag, out: command.Output) -> None:
     """Lists the topics of a bag."""
     for topic in found.topics.values():
         try:
             names = ", ".join(name for _, _, name in found.types.fields(cdr.plain(topic.type)))
         except cdr.Unreadable:
             names = "its fields aren't known"
-        out.line(f"{topic.name}\t{topic.type}\t{difference.numbered(topic.count, 'message')}\t{names}")
+        out.line(f"{topic.name}\t{topic.type}\t{difference.numbered(topic.messages, 'message')}\t{names}")
 
 
-def demand_topics(found, source):
+def demand_topics(found: AnyBag, source: feed_entries.Source) -> None:
     """Demands that the bag has what a source takes."""
     for name in source.topics(found):
         topic = found.topics.get(name)
@@ -99,7 +106,7 @@ def demand_topics(found, source):
             raise command.Trouble(f"{found.name}: {name} is in {topic.format}, and cdr is read")
 
 
-def demand_declared(asked, own):
+def demand_declared(asked: argparse.Namespace, own: fit.Own) -> None:
     for source in asked.sources:
         if own.kinds.get(source.own) != source.KIND:
             near = hints.meant(source.own, [name for name, kind in own.kinds.items() if kind == source.KIND])

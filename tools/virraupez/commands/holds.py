@@ -5,13 +5,23 @@
   at end no pending
 
 Of each rule that doesn't hold the first line that breaks it is told, with its round. docs/holds.md has all rules."""
-from .. import checker, command, fit, judge, junit, report, rulebook, rules, transcript, view
+from __future__ import annotations
+
+from .. import TYPE_CHECKING, checker, command, fit, judge, junit, report, rulebook, rules, transcript, view
+
+if TYPE_CHECKING:
+    import argparse
+    from typing import Iterator, List, Optional
+
+    from ..fit import Own
+    from ..rules import Finding, Rule
+    from ..shapes import Paint
 
 STATUS = """The last line is 'N hold, M fail, K undecided'. The status is 0 if all hold, 1 if one fails or is undecided, and 2 if the rules or
 a transcript are wrong."""
 
 
-def parser(prog=None):
+def parser(prog: Optional[str] = None) -> command.Parser:
     made = command.parser(__doc__, STATUS, prog)
     made.add_argument("files", metavar="TRANSCRIPT", nargs="+", help="transcripts, behind the file of rules unless --rules names it; - is standard input")
     made.add_argument("--rules", metavar="RULES", help="the file of rules")
@@ -23,14 +33,15 @@ def parser(prog=None):
     return made
 
 
-def run(asked, out):
+def run(asked: argparse.Namespace, out: command.Output) -> int:
     file, *names = [asked.rules, *asked.files] if asked.rules else asked.files
     if not names:
         raise command.Trouble("no transcript is named: the rules come before the transcripts")
     if asked.view and len(names) > 1:
         raise command.Trouble("--view is the page of one transcript")
     text, own = command.text_of(file), fit.read(asked.document) if asked.document else None
-    status, wrong, suites = command.FINE, [], []
+    status, suites = command.FINE, []
+    wrong: List[str] = []
     for name in names:
         check = checker.Check(rulebook.read(text, file, own.kinds if own else None, asked.rule))
         try:
@@ -53,7 +64,7 @@ def run(asked, out):
     return status
 
 
-def case(asked, file, name, rule, own):
+def case(asked: argparse.Namespace, file: str, name: str, rule: Rule, own: Optional[Own]) -> junit.Case:
     """The case of a rule. One that is about nothing passes, and one that is undecided may."""
     outcome = rule.outcome(own)
     passes = outcome in (rules.HOLDS, rules.NOTHING) or outcome == rules.UNDECIDED and asked.accept_undecided
@@ -63,34 +74,35 @@ def case(asked, file, name, rule, own):
 COLOURS = {rules.FAILS: "fault", rules.UNDECIDED: "warning", rules.NOTHING: "hint"}
 
 
-def told(file, name, check, own, paint):
+def told(file: str, name: str, check: checker.Check, own: Optional[Own], paint: Paint) -> Iterator[str]:
     """What is told of each rule that doesn't hold, or holds of nothing."""
     for rule in check.rules:
         yield from told_of(file, name, rule, own, paint)
 
 
-def told_of(file, name, rule, own, paint=report.unpainted):
+def told_of(file: str, name: str, rule: Rule, own: Optional[Own], paint: Paint = report.unpainted) -> List[str]:
     """The lines that say why a rule doesn't hold, or holds of nothing."""
     outcome = rule.outcome(own)
     if outcome == rules.HOLDS:
         return []
     head = f"{paint('place', command.place(file, rule.number, rule.column))}{paint(COLOURS[outcome], outcome)}: {rule.text}"
-    return [head, reason(rule, outcome, name, own)]
+    return [head, reason(rule, name, own)]
 
 
-def reason(rule, outcome, name, own):
+def reason(rule: Rule, name: str, own: Optional[Own]) -> str:
     """The line that decides a rule, or what there isn't."""
-    if outcome != rules.NOTHING:
-        return line_of(name, rule.failure or rule.open_end)
-    return f"  {name if rule.unmet() else command.shown(own.name)}: {judge.lacking(rule)}"
+    it = rule.failure or rule.open_end
+    if it:
+        return line_of(name, it)
+    return f"  {name if rule.unmet() or own is None else command.shown(own.name)}: {judge.lacking(rule)}"
 
 
-def line_of(name, it):
+def line_of(name: str, it: Finding) -> str:
     says = f" ({it.says})" if it.says else ""
     return f"  {command.place(name, it.number)}in round {it.round} at moment {it.moment}: {it.line}{says}"
 
 
-def verdict(out, check, head, accepts):
+def verdict(out: command.Output, check: checker.Check, head: str, accepts: bool) -> int:
     """Tells how many rules hold, and gives the status."""
     fail, undecided = (sum(bool(getattr(rule, it)) for rule in check.rules) for it in ("failure", "open_end"))
     says = f"{len(check.rules) - fail - undecided} hold, {fail} fail, {undecided} undecided"

@@ -3,16 +3,22 @@ for jq and pandas, as
 
   ./virraupez lines run.txt --json | jq 'select(.word == "pub" and .value > 20)'
 
-With its document an object has the node and the callback group too, and each callback the line that sent what it took. docs/lines.md
+With its document an object has the node and the callback group too, and each callback the line that sent what it took. docs/tools.md
 has the fields."""
+from __future__ import annotations
+
 import json
 
-from .. import command, fields, fit, flow
+from .. import TYPE_CHECKING, command, fields, fit, flow, transcript
+
+if TYPE_CHECKING:
+    import argparse
+    from typing import Optional
 
 STATUS = "The status is 0, and 2 if the transcript can't be read, is cut off, or isn't one of the document."
 
 
-def parser(prog=None):
+def parser(prog: Optional[str] = None) -> command.Parser:
     made = command.parser(__doc__, STATUS, prog)
     made.add_argument("document", metavar="DOCUMENT", nargs="?", help="the document of the transcript; - is standard input")
     made.add_argument("transcript", metavar="TRANSCRIPT", help="a transcript; - is standard input")
@@ -21,17 +27,17 @@ def parser(prog=None):
     return made
 
 
-def run(asked, out):
+def run(asked: argparse.Namespace, out: command.Output) -> int:
     command.place_files(asked, "document", least=0)
     document = flow.read_document(asked.document) if asked.document else None
-    own = fit.Own(asked.document, document) if asked.document else None
+    own = fit.Own(asked.document, document) if document else None
     if asked.json:
         encode = json.JSONEncoder(separators=(",", ":")).encode
         for made in fields.objects(asked.transcript, own, document):
             out.line(encode(made))
         return command.FINE
     moment = number = "0"
-    for line in fields.transcript.lines(asked.transcript, own):
+    for line in transcript.lines(asked.transcript, own):
         if line.startswith("round "):
             _, number, moment = line.split(" ")
         out.line(f"{number}\t{moment}\t{line}")

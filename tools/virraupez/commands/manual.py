@@ -1,5 +1,11 @@
 """manual: writes the manual page of virraupez, docs/virraupez.1, which is made of the words that --help says. `man -l` shows it."""
-from .. import command, launcher, vocabulary
+from __future__ import annotations
+
+from .. import TYPE_CHECKING, command, launcher, vocabulary
+
+if TYPE_CHECKING:
+    import argparse
+    from typing import Iterable, Iterator, List, Optional
 
 SYNOPSIS = (
     r"\fBvirraupez\fR \fICOMMAND\fR [\fIWORD\fR ..]",
@@ -10,16 +16,16 @@ SYNOPSIS = (
 )
 
 
-def parser(prog=None):
+def parser(prog: Optional[str] = None) -> command.Parser:
     return command.parser(__doc__, "The status is 0, and 2 if the page can't be written.", prog)
 
 
-def run(_asked, out):
+def run(_asked: argparse.Namespace, out: command.Output) -> int:
     out.write("\n".join(page()) + "\n")
     return command.FINE
 
 
-def page():
+def page() -> Iterator[str]:
     """The lines of the page, in the language of man."""
     all_commands = vocabulary.all_commands()
     yield '.TH VIRRAUPEZ 1 "" "Virraupez" "User Commands"'
@@ -34,11 +40,11 @@ def page():
     yield from section("SEE ALSO", ["docs/tour.md, a run in five minutes; docs/document.md, the document; docs/transcript.md, the transcript."])
 
 
-def section(name, lines):
+def section(name: str, lines: Iterable[str]) -> List[str]:
     return [f".SH {name}", *lines]
 
 
-def of_command(it):
+def of_command(it: vocabulary.Command) -> Iterator[str]:
     yield f".SS {escaped(it.synopsis())}"
     for number, paragraph in enumerate(it.paragraphs):
         if number:
@@ -57,7 +63,7 @@ def of_command(it):
     yield escaped(it.status)
 
 
-def escaped(text):
+def escaped(text: str) -> str:
     """A text without signs that man takes for its own."""
     text = text.replace("\\", "\\(rs").replace("-", "\\-")
     return "\n".join(f"\\&{line}" if line[:1] in (".", "'") else line for line in text.split("\n"))

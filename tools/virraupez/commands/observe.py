@@ -7,9 +7,14 @@
 
 TRACE is a folder of ros2_tracing, which needs Python's module bt2, or a table with the columns time, kind and name. Without --document
 and --transcript the rounds and their callbacks are written. docs/observe.md has more."""
+from __future__ import annotations
+
 import argparse
 
-from .. import command, document_text, flow, grammar, observation, ticks
+from .. import TYPE_CHECKING, command, document_text, flow, grammar, observation, ticks
+
+if TYPE_CHECKING:
+    from typing import Any, Optional
 
 STATUS = "The status is 0, and 2 if the trace or another file can't be read, or an entity isn't named."
 
@@ -17,14 +22,14 @@ STATUS = "The status is 0, and 2 if the trace or another file can't be read, or 
 class Named(argparse.Action):
     """Adds the name of an entity."""
 
-    def __call__(self, parser, asked, value, option=None):
+    def __call__(self, parser: argparse.ArgumentParser, asked: argparse.Namespace, value: Any, option: Optional[str] = None) -> None:
         what, _, name = value.rpartition("=")
         if not what or not grammar.NAME.fullmatch(name):
             parser.error(f"argument {option}: WHAT=ENTITY is wanted, and not {value[:60]!r}")
         asked.names = {**asked.names, what: name}
 
 
-def parser(prog=None):
+def parser(prog: Optional[str] = None) -> command.Parser:
     given = command.parser(__doc__, STATUS, prog)
     given.add_argument("trace", metavar="TRACE", help="the folder of a trace, or a table as CSV; - is standard input")
     given.add_argument("--name", metavar="WHAT=ENTITY", dest="names", action=Named, default={}, help="which entity of the document a topic, a service or the function of a timer is")
@@ -37,7 +42,7 @@ def parser(prog=None):
     return given
 
 
-def run(asked, out):
+def run(asked: argparse.Namespace, out: command.Output) -> int:
     found = observation.rounds(observation.read(asked.trace, asked.thread), asked.names, asked.tick, asked.begin)
     if not found:
         raise command.Trouble(f"{command.shown(asked.trace)}: no callback was run")

@@ -1,37 +1,41 @@
 """picture: draws a run as SVG: a column a round, a row a callback group with its callbacks, lines from who sent an item to who
-took it, and a bar a goal. With --graph it draws who talks to whom, of a document alone or with what a run did. docs/picture.md says
+took it, and a bar a goal. With --graph it draws who talks to whom, of a document alone or with what a run did. docs/tools.md says
 how to read them."""
-import argparse
+from __future__ import annotations
 
-from .. import command, diagram, fit, flow, grammar, graph, picture, scene, series, transcript
+import argparse
+from typing import NamedTuple
+
+from .. import TYPE_CHECKING, command, diagram, fit, flow, grammar, graph, picture, scene, series, transcript
+
+if TYPE_CHECKING:
+    from typing import Optional
 
 STATUS = "The status is 0, and 2 if there is nothing to draw: a file is wrong, cut off or another run's, or hasn't these rounds."
 
 
-def rounds_of(text):
+def rounds_of(text: str) -> Rounds:
     """The first and the last round of A-B, A- or A."""
     first, between, last = text.partition("-")
     if not grammar.is_number(first) or last and not grammar.is_number(last) or int(first) < 1 or last and int(last) < int(first):
         raise argparse.ArgumentTypeError(f"rounds are A-B, A- or A, counted from 1, and not {text[:40]!r}")
-    return Rounds(int(first), int(last) if last else int(first) + scene.ROUNDS - 1 if between else int(first), is_open=between and not last)
+    return Rounds(int(first), int(last) if last else int(first) + scene.ROUNDS - 1 if between else int(first), is_open=bool(between) and not last)
 
 
-class Rounds(tuple):
+class Rounds(NamedTuple):
     """The first and the last round that are asked for. If they are open, there may be fewer."""
 
-    def __new__(cls, first, last, is_open):
-        made = super().__new__(cls, (first, last))
-        made.is_open = bool(is_open)
-        return made
+    first: int
+    last: int
+    is_open: bool
 
-    def demand(self, count):
+    def demand(self, count: int) -> None:
         """Demands that a run of so many rounds has them."""
-        first, last = self
-        if first > count or last > count and not self.is_open:
-            raise command.Trouble(f"there are no rounds {first} to {last}: the transcript has {count}")
+        if self.first > count or self.last > count and not self.is_open:
+            raise command.Trouble(f"there are no rounds {self.first} to {self.last}: the transcript has {count}")
 
 
-def parser(prog=None):
+def parser(prog: Optional[str] = None) -> command.Parser:
     made = command.parser(__doc__, STATUS, prog)
     made.add_argument("document", metavar="DOCUMENT", nargs="?", help="a document; - is standard input")
     made.add_argument("transcript", metavar="TRANSCRIPT", nargs="?", help="its transcript; - is standard input. --graph needs none")
@@ -43,7 +47,7 @@ def parser(prog=None):
     return made
 
 
-def run(asked, out):
+def run(asked: argparse.Namespace, out: command.Output) -> int:
     command.place_files(asked, "document", "transcript")
     document = flow.read_document(asked.document)
     if asked.graph:
@@ -53,10 +57,10 @@ def run(asked, out):
     if not asked.transcript:
         raise command.Trouble("a transcript is wanted after the document; --graph needs none")
     plotted = series.asked(asked.plot, document)
-    shown = scene.Scene(document, *asked.rounds, plotted)
+    shown = scene.Scene(document, asked.rounds.first, asked.rounds.last, plotted)
     shown.read(asked.transcript, fit.Own(asked.document, document))
     asked.rounds.demand(shown.rounds)
-    if shown.rounds > asked.rounds[1] and asked.rounds == (1, scene.ROUNDS):
+    if shown.rounds > asked.rounds.last and asked.rounds[:2] == (1, scene.ROUNDS):
         command.note(f"picture: the first {scene.ROUNDS} of {shown.rounds} rounds are drawn; --rounds draws others")
-    out.write(picture.Picture(shown, shown.series.of(plotted) if plotted else ()).svg())
+    out.write(picture.Picture(shown, shown.series.of(plotted) if shown.series else ()).svg())
     return command.FINE

@@ -8,9 +8,16 @@ written apart from the program, by docs/rules.md alone. Nothing of it is proved;
 With --definitions the definitions of which the theorem speaks are read from docs/HEADLINE.md, as the page prints them, and
 computed. --trace shows what they say of one round, step by step, with the line of each on the page. --ask computes an expression,
 in which `plan` is the document's plan."""
+from __future__ import annotations
+
+import io
 import os
 
-from .. import command, grammar, runs
+from .. import TYPE_CHECKING, command, grammar, runs
+
+if TYPE_CHECKING:
+    import argparse
+    from typing import Iterator, Optional
 
 STATUS = "The status is 0, 1 if the document is refused, and 2 if it can't be run."
 CHUNK = 1 << 20
@@ -18,7 +25,7 @@ CHUNK = 1 << 20
 WARNED = 1 << 18
 
 
-def parser(prog=None):
+def parser(prog: Optional[str] = None) -> command.Parser:
     made = command.parser(__doc__, STATUS, prog)
     made.add_argument("document", metavar="DOCUMENT", nargs="?", help="a document; - is standard input. --ask does without it")
     workers = "how many workers run the callbacks of a round at most, 1 to 64; 1 if it isn't given. The transcript is the same"
@@ -32,7 +39,7 @@ def parser(prog=None):
     return made
 
 
-def run(asked, out):
+def run(asked: argparse.Namespace, out: command.Output) -> int:
     if asked.document is None:
         if asked.ask is None:
             raise command.Trouble("this word is required: DOCUMENT, or --ask EXPRESSION")
@@ -56,7 +63,7 @@ def run(asked, out):
     return command.FOUND if refused else command.FINE
 
 
-def warning(name, given):
+def warning(name: str, given: bytes) -> Iterator[str]:
     """One line if explain would warn of a document: how often, and of what first."""
     from .. import faults, report
 
@@ -65,7 +72,7 @@ def warning(name, given):
         yield f"{command.place(name, entry.line, entry.column)}{report.warned(told)}, the first of {report.shown(faults.path_text(entry.path))}: {report.shown(entry.wanted)}"
 
 
-def tell_faults(name, given):
+def tell_faults(name: str, given: bytes) -> None:
     """Tells the places of a document's faults on standard error."""
     from .. import report
 
@@ -77,12 +84,14 @@ def tell_faults(name, given):
 # ---- the proved program
 
 
-def by_program(asked, given, out):
+def by_program(asked: argparse.Namespace, given: bytes, out: command.Output) -> bool:
     """Runs a document by the proved program; True if it was refused."""
     program = runs.Executor().start(str(asked.workers), str(asked.quantum), env=runs.launching())
     try:
+        assert program.stdin and isinstance(program.stdout, io.BufferedReader), "both are pipes"
+        stdout = program.stdout
         runs.feed(program.stdin, given)
-        for chunk in iter(lambda: program.stdout.read1(CHUNK), b""):
+        for chunk in iter(lambda: stdout.read1(CHUNK), b""):
             out.write(chunk.decode("ascii"))
         status = program.wait()
     finally:
@@ -97,7 +106,7 @@ def by_program(asked, given, out):
 # ---- the executor in Python
 
 
-def by_reference(given, out):
+def by_reference(given: bytes, out: command.Output) -> bool:
     """Runs a document by cases/executor.py; True if it was refused."""
     try:
         text = runs.Reference().transcript(given)
@@ -112,7 +121,7 @@ def by_reference(given, out):
 # ---- the definitions
 
 
-def by_definitions(asked, given, out):
+def by_definitions(asked: argparse.Namespace, given: Optional[bytes], out: command.Output) -> bool:
     """Answers what is asked of the definitions; True if the document was refused."""
     from ..definitions import program
 

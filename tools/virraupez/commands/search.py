@@ -6,11 +6,18 @@ periods, and holds each run to rules, as
 WHAT is an entry of the feed, as feed[3], counted from 0, or a topic or an action server, for all that is fed to it. RANGE is A..B,
 ±N or one number, in ticks. If there are at most as many variations as runs, each is run once; if there are more, some are drawn
 by chance. The same words give the same answer on any machine. docs/search.md has more."""
+from __future__ import annotations
+
 import argparse
 import contextlib
 import time
 
-from .. import command, crew, flow, grammar, judge, junit, search_folder, searching, shards, space, table, view
+from .. import TYPE_CHECKING, command, crew, flow, grammar, judge, junit, search_folder, searching, shards, space, table, view
+
+if TYPE_CHECKING:
+    from typing import Any, Optional, Tuple
+
+    from ..shapes import Fields, Out
 
 STATUS = """The status is 0 if no run breaks a rule, 1 if one does or if the runs say nothing of a rule, and 2 if the document or the rules
 are wrong or a run fails. It is 130 after Ctrl-C, and what was found so far is reported."""
@@ -33,11 +40,11 @@ VARIES = {
 class Varies(argparse.Action):
     """Keeps what may vary, in the order of the words."""
 
-    def __call__(self, _parser, asked, values, _option=None):
+    def __call__(self, _parser: argparse.ArgumentParser, asked: argparse.Namespace, values: Any, _option: Optional[str] = None) -> None:
         setattr(asked, "vary", [*(asked.vary or []), [self.dest, *values]])
 
 
-def parser(prog=None):
+def parser(prog: Optional[str] = None) -> command.Parser:
     made = command.parser(__doc__, STATUS, prog)
     made.add_argument("documents", metavar="DOCUMENT", nargs="*", default=[], help="a document, or with --merge what shards wrote; - is standard input")
     command.name_document(made)
@@ -66,18 +73,18 @@ def parser(prog=None):
     return made
 
 
-def processes(text):
+def processes(text: str) -> int:
     return command.number(text, PROCESSES)
 
 
-def shard(text):
+def shard(text: str) -> Tuple[int, int]:
     part, between, of = text.partition("/")
     if not between or not 1 <= command.number(part) <= command.number(of):
         raise argparse.ArgumentTypeError(f"K/N with K from 1 to N, and not {text[:40]!r}")
     return int(part), int(of)
 
 
-def run(asked, out):
+def run(asked: argparse.Namespace, out: Out) -> int:
     command.join_documents(asked)
     if asked.merge:
         return merged(asked, out)
@@ -90,7 +97,7 @@ def run(asked, out):
     return searched(searching.Search(plan(asked)), asked, out)
 
 
-def plan(asked):
+def plan(asked: argparse.Namespace) -> Fields:
     """What decides the answer of a search."""
     return {
         "name": asked.documents[0],
@@ -106,17 +113,20 @@ def plan(asked):
     }
 
 
-def searched(made, asked, out):
+def searched(made: searching.Search, asked: argparse.Namespace, out: Out) -> int:
     """Searches, and reports what was found, also if Ctrl-C or a run that fails ends it."""
     judging = judge.Judge(judge.executor(asked.reference), made.rules)
     tally, folder = searching.Tally(made), search_folder.Folder(asked.save, made, judging)
     lines = shards.Lines(made, asked.shard, judging.program.described(), out) if asked.shard else None
-    progress = Progress(tally, asked.shard or (1, 1))
-    stopped = None
+    number, of = asked.shard or (1, 1)
+    progress = Progress(tally, (number, of))
+    stopped: Optional[BaseException] = None
     try:
-        for part in made.parts(judging, *(asked.shard or (1, 1)), asked.processes or crew.processors()):
-            for taker in filter(None, (tally, folder, lines)):
-                taker.add(part)
+        for part in made.parts(judging, number, of, asked.processes or crew.processors()):
+            tally.add(part)
+            folder.add(part)
+            if lines:
+                lines.add(part)
             progress.count(tally)
     except (KeyboardInterrupt, command.Trouble) as ended:
         stopped = ended
@@ -133,7 +143,7 @@ def searched(made, asked, out):
     return status(tally, stopped, not lines and any(tally.silent(asked.accepted)))
 
 
-def merged(asked, out):
+def merged(asked: argparse.Namespace, out: Out) -> int:
     """Joins shards, and reports what they found."""
     if asked.view:
         raise command.Trouble("--merge joins what shards wrote, and runs nothing: it has no run for --view")
@@ -153,20 +163,20 @@ def merged(asked, out):
     return status(tally, command.Trouble(*missing) if missing else None, any(tally.silent(asked.accepted)))
 
 
-def reduce(tally, judging, stopped):
+def reduce(tally: searching.Tally, judging: judge.Judge, stopped: object) -> None:
     """Finds the fewest changes of a run that ended a search, or as few as are found before Ctrl-C."""
     if tally.first and not tally.search.is_all and not stopped:
         with contextlib.suppress(KeyboardInterrupt):
             searching.reduce(tally, judging)
 
 
-def tell(tally, out, stopped, asked):
+def tell(tally: searching.Tally, out: Out, stopped: object, asked: argparse.Namespace) -> None:
     for line in table.lines(tally, out.paint, "; it ended early" if stopped else "", asked.accepted):
         out.line(line)
     junit.write(asked, [(tally.search.plan["name"], list(table.cases(tally, asked.accepted)))])
 
 
-def show(name, made, judging, tally, out):
+def show(name: Optional[str], made: searching.Search, judging: judge.Judge, tally: searching.Tally, out: Out) -> None:
     """Writes the page of the run with the least change that breaks the first of the broken rules, and tells the links to the lines."""
     first = tally.found[min(tally.found)].least if tally.found else tally.own
     if not name or first is None:
@@ -180,7 +190,7 @@ def show(name, made, judging, tally, out):
         out.line(line)
 
 
-def status(tally, stopped, is_open):
+def status(tally: searching.Tally, stopped: Optional[BaseException], is_open: bool) -> int:
     """The status of a search. It is open if the runs say nothing of a rule."""
     if isinstance(stopped, command.Trouble):
         raise stopped
@@ -190,15 +200,15 @@ def status(tally, stopped, is_open):
 class Progress:
     """How far a search is, for the line on a terminal."""
 
-    def __init__(self, tally, shard):
+    def __init__(self, tally: searching.Tally, shard: Tuple[int, int]) -> None:
         self.begun, self.all = time.monotonic(), len(range(shard[0], tally.search.runs + 1, shard[1]))
         self.count(tally)
         command.PROGRESS.says = self.says
 
-    def count(self, tally):
+    def count(self, tally: searching.Tally) -> None:
         self.runs, self.broken = tally.runs, tally.broken
 
-    def says(self):
+    def says(self) -> str:
         rate = self.runs / max(time.monotonic() - self.begun, 0.001)
         left = f", {(self.all - self.runs) / rate:.0f} s left" if rate else ""
         return f"{self.runs} of {self.all} runs, {rate:.0f} a second, {self.broken} break a rule{left}"

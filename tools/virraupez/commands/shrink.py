@@ -4,11 +4,20 @@ accepted.
 
 The rule is the first of the file that the document breaks, or that of --rule. If an answer comes too late, it comes too late in
 the smallest document too. With --unless, another timing of the smallest document still keeps the rule. docs/search.md has more."""
+from __future__ import annotations
+
 import json
 import re
 
-from .. import ancestry, command, document_text, fit, flow, judge, pattern, rules, runs, shrinking
+from .. import TYPE_CHECKING, ancestry, command, document_text, fit, flow, judge, pattern, rules, runs, shrinking
 from . import search
+
+if TYPE_CHECKING:
+    import argparse
+    from typing import List, Optional
+
+    from ..fit import Kinds
+    from ..shapes import Document, Runner
 
 STATUS = """The status is 0, and 2 if the document breaks no rule or something is wrong. It is 130 after Ctrl-C, and what is smallest so far is
 written."""
@@ -17,7 +26,7 @@ written."""
 GONE = 6
 
 
-def parser(prog=None):
+def parser(prog: Optional[str] = None) -> command.Parser:
     made = command.parser(__doc__, STATUS, prog)
     made.add_argument("document", metavar="DOCUMENT", nargs="?", help="a document that breaks a rule; - is standard input")
     command.name_document(made)
@@ -29,7 +38,7 @@ def parser(prog=None):
     return made
 
 
-def run(asked, out):
+def run(asked: argparse.Namespace, out: command.Output) -> int:
     command.place_files(asked, "document")
     document, program = flow.read_document(asked.document), judge.executor(asked.reference)
     declared = fit.Own(asked.document, document).kinds
@@ -51,7 +60,7 @@ def run(asked, out):
     return status
 
 
-def broken(asked, document, judging):
+def broken(asked: argparse.Namespace, document: Document, judging: judge.Judge) -> rules.Rule:
     """The rule that the document breaks."""
     try:
         judging.run(document)
@@ -64,7 +73,7 @@ def broken(asked, document, judging):
     return found[0]
 
 
-def other_timing(asked, document, judging):
+def other_timing(asked: argparse.Namespace, document: Document, judging: judge.Judge) -> Document:
     """The document of --unless, which keeps the rule."""
     good = flow.read_document(asked.unless)
     if not shrinking.differ_in_timing(document, good):
@@ -77,7 +86,7 @@ def other_timing(asked, document, judging):
     return good
 
 
-def kept(text, declared):
+def kept(text: str, declared: Kinds) -> rules.Rule:
     """The rule that a line stays."""
     try:
         rule = rules.Count(judge.event_of(text, declared), 1, None)
@@ -86,13 +95,13 @@ def kept(text, declared):
     return rule
 
 
-def gone(program, before, after):
+def gone(program: Runner, before: Document, after: Document) -> List[str]:
     """The first words of the lines that the run no longer has, drops first."""
     one, other = (ancestry.names(program.transcript(json.dumps(it).encode())) for it in (before, after))
     return sorted((name for name in one if name not in other), key=lambda name: not name.startswith("drop "))
 
 
-def tell(rule, shrinker, document, lost):
+def tell(rule: rules.Rule, shrinker: shrinking.Shrinker, document: Document, lost: List[str]) -> None:
     """Tells on standard error what became smaller, how the document breaks its rule now, and what its run no longer has."""
     sizes = [len(document_text.layout(it)) + 1 for it in (document, shrinker.document)]
     parts = changed(document, shrinker.document)
@@ -106,7 +115,7 @@ def tell(rule, shrinker, document, lost):
         command.note(f"shrink: the run no longer has {', '.join(lost[:GONE])}{more}; --keep keeps a line")
 
 
-def changed(before, after):
+def changed(before: Document, after: Document) -> List[str]:
     """What became less, of each kind of part."""
     one, other = shrinking.sizes(before), shrinking.sizes(after)
     return [f"{count} {name if count != 1 else re.sub('s$', '', name.replace('ies', 'y'))} became {other[name]}" for name, count in one.items() if other[name] != count]

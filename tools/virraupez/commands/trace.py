@@ -1,15 +1,21 @@
 """trace: writes a run as trace events, which Perfetto and Chrome read. A node is a process, a callback group a thread, a callback a
 slice. Arrows lead from who sent an item to who took it, the states of goals are spans, and topics are counters.
 
-Callbacks take no time in a run; those of a round share the tick that begins at its moment, in their order. docs/lines.md has more."""
+Callbacks take no time in a run; those of a round share the tick that begins at its moment, in their order. docs/tools.md has more."""
+from __future__ import annotations
+
 import json
 
-from .. import command, fit, flow, foxglove, ticks, trace, transcript
+from .. import TYPE_CHECKING, command, fit, flow, foxglove, ticks, trace, transcript
+
+if TYPE_CHECKING:
+    import argparse
+    from typing import Optional
 
 STATUS = "The status is 0, and 2 if the transcript can't be read, is cut off, or isn't one of the document."
 
 
-def parser(prog=None):
+def parser(prog: Optional[str] = None) -> command.Parser:
     made = command.parser(__doc__, STATUS, prog)
     made.add_argument("document", metavar="DOCUMENT", nargs="?", help="a document; - is standard input")
     made.add_argument("transcript", metavar="TRANSCRIPT", nargs="?", help="its transcript; - is standard input")
@@ -19,7 +25,7 @@ def parser(prog=None):
     return made
 
 
-def run(asked, out):
+def run(asked: argparse.Namespace, out: command.Output) -> int:
     command.place_files(asked, "document", "transcript", least=2)
     document = flow.read_document(asked.document)
     if asked.foxglove:

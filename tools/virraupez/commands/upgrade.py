@@ -4,18 +4,24 @@ with such fields is upgraded only with --drop-unknown. The proved program writes
 is refused, the places of its faults are told, as explain tells them, and the others are upgraded.
 
 It is written in the text of its document, whose lines, spaces and order of fields stay, so that both can be compared line by line.
-With -i each document is replaced by its upgrade, by a new file of the same name and mode. docs/upgrade.md has more."""
+With -i each document is replaced by its upgrade, by a new file of the same name and mode. docs/tools.md has more."""
+from __future__ import annotations
+
 import json
 import sys
 
-from .. import command, difference, grammar, json_text, refusals, replacement, report, runs, upgrades
+from .. import TYPE_CHECKING, command, difference, grammar, json_text, refusals, replacement, report, runs, upgrades
 from . import explain
+
+if TYPE_CHECKING:
+    import argparse
+    from typing import List, Optional
 
 STATUS = """The status is 0, 1 if a document is refused or fields of it would go, and 2 if one can't be read or replaced, or no program
 runs."""
 
 
-def parser(prog=None):
+def parser(prog: Optional[str] = None) -> command.Parser:
     made = command.parser(__doc__, STATUS, prog)
     made.add_argument("documents", metavar="DOCUMENT", nargs="+", help="a document; - is standard input")
     made.add_argument("-i", "--in-place", action="store_true", help="replace each document by its upgrade, and write nothing to standard output")
@@ -25,13 +31,14 @@ def parser(prog=None):
     return made
 
 
-def run(asked, out):
+def run(asked: argparse.Namespace, out: command.Output) -> int:
     if asked.in_place and asked.output != command.STANDARD:
         raise command.Trouble("-i replaces the documents themselves: there is nothing for -o")
     if asked.in_place and command.STANDARD in asked.documents:
         raise command.Trouble("-i replaces files, and - is standard input")
     text_of = by_reference if asked.reference else runs.Upgrader().text
-    status, wrong = command.FINE, []
+    status = command.FINE
+    wrong: List[str] = []
     for name in asked.documents:
         try:
             given = explain.given_by(name)
@@ -57,7 +64,7 @@ def run(asked, out):
     return status
 
 
-def by_reference(given):
+def by_reference(given: bytes) -> str:
     """The text of an upgrade, by the tools' own reader."""
     code = refusals.code(given)
     if code:
@@ -65,12 +72,12 @@ def by_reference(given):
     return upgrades.text_of(given)
 
 
-def shown(given, text, is_compact):
+def shown(given: bytes, text: str, is_compact: bool) -> str:
     """An upgrade in one line, or in the text of its document."""
     return f"{text}\n" if is_compact else upgrades.edited(given.decode(), json.loads(text))
 
 
-def tell_lost(name, given, asked):
+def tell_lost(name: str, given: bytes, asked: argparse.Namespace) -> int:
     """Tells each field that an upgrade leaves out, with its place, and gives how many there are."""
     lost = report.Report(given, sys.maxsize, report.ignored)
     for entry in lost.entries:
@@ -85,13 +92,13 @@ def tell_lost(name, given, asked):
     return count
 
 
-def tell_refusal(name, given, refused):
+def tell_refusal(name: str, given: bytes, refused: runs.Refused) -> None:
     """Tells the places of a document's faults on standard error, or the code alone if there is no place, as for want of memory."""
     told = report.Report(given)
     command.note(*(report.lines(told, command.printable(name)) if told.code else [f"{command.shown(name)}: refused {refused}"]))
 
 
-def replace(name, text):
+def replace(name: str, text: str) -> None:
     """Gives a document's name to a new file with its upgrade. A symbolic link stays, and leads to the new file."""
     if not replacement.is_plain(name):
         raise command.Trouble(f"{command.shown(name)}: no plain file, which alone can be replaced")

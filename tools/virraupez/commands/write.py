@@ -5,26 +5,34 @@ written: what is wrong is told at the program's lines, as explain tells it.
 Words after the program's name are its own; those that begin with - come after a --. With --script, FILE is a script with labels,
 and its instructions are written as a document has them. With --back, FILE is a document, and a program that writes it is written;
 with both it is a list of instructions, and a script with labels is. docs/write.md has all of that."""
+from __future__ import annotations
+
 import gc
 import json
 
-from .. import assembler, command, cuts, flow, grammar, listing, program, upgrades
+from .. import TYPE_CHECKING, assembler, command, cuts, flow, grammar, listing, program, upgrades
+
+if TYPE_CHECKING:
+    import argparse
+    from typing import Iterable, Optional
+
+    from ..shapes import Document
 
 STATUS = "The status is 0, 1 if the program or the script is wrong, and 2 if a file can't be read. A program that ends itself with another status has that."
 
 
-def parser(prog=None):
+def parser(prog: Optional[str] = None) -> command.Parser:
     made = command.parser(__doc__, STATUS, prog)
     made.add_argument("--script", action="store_true", help="assemble a script with labels")
     made.add_argument("--back", action="store_true", help="write a program of a document, or with --script a script of instructions")
     made.add_argument("file", metavar="FILE", help="a Python program, or a script; - is standard input")
     made.add_argument("words", metavar="WORD", nargs="*", help="words for the program, in its sys.argv")
     # So -o may stand between the words too.
-    made.parse_args = made.parse_intermixed_args
+    setattr(made, "parse_args", made.parse_intermixed_args)
     return made
 
 
-def run(asked, out):
+def run(asked: argparse.Namespace, out: command.Output) -> int:
     try:
         if asked.back:
             out.write("".join(f"{line}\n" for line in way_back(asked)))
@@ -39,7 +47,7 @@ def run(asked, out):
     return command.FINE
 
 
-def written(text, to, out):
+def written(text: str, to: str, out: command.Output) -> int:
     """Writes what a program wrote. If that is nothing, its documents went to streams of its own, and so to no file of -o."""
     if text:
         out.write(text)
@@ -48,7 +56,7 @@ def written(text, to, out):
     return command.FINE if to == command.STANDARD else command.FOUND
 
 
-def way_back(asked):
+def way_back(asked: argparse.Namespace) -> Iterable[str]:
     """The lines of a program that writes a document, or of a script."""
     if asked.script:
         try:
@@ -63,7 +71,7 @@ def way_back(asked):
     return listing.program_of(document)
 
 
-def tell_changes(name, document):
+def tell_changes(name: str, document: Document) -> None:
     """Says what the document will have in another way if it is written again."""
     rounds = [it["round"] for it in document.get("feed", [])]
     if rounds != sorted(rounds):
@@ -76,7 +84,7 @@ def tell_changes(name, document):
         command.note(f"write: {command.shown(name)}: empty lists go")
 
 
-def instructions(file):
+def instructions(file: str) -> str:
     """The instructions of a script, as a document has them."""
     text = command.text_of(file)
     made = assembler.Assembled(text)

@@ -2,3 +2,4 @@
 
 `page` reads the page, `code` its types, `syntax` the language of its definitions. `compiler` makes Python of them, `library` is what
 they take from the toolchain, and `program` answers by them. `steps` tells what they do in a round."""
+from __future__ import annotations

@@ -1,11 +1,22 @@
 """Python made of definitions: for each a function as text. Arguments are computed before a call, as the prover does it; `if`, `&&` and
 `||` compute what they need. A function that is a value takes one argument at a time."""
+from __future__ import annotations
+
 import inspect
 import re
 
+from .. import TYPE_CHECKING
 from . import code, library, tree
 from .page import Unknown
 from .values import SHAPES
+
+if TYPE_CHECKING:
+    from typing import Callable, Dict, Iterable, List, Optional, Set, Union
+
+    from .names import Names
+
+    # The names in Python of variables.
+    Scope = Dict[str, str]
 
 # The types of what a document is read as. What one of them is asked of alone is kept for the next time, since it is asked often.
 READ = {"Data", "GraphDraft", "DocumentDraft", "GraphData", "PlanData"}
@@ -15,24 +26,28 @@ INDENT = "    "
 class Compiler:
     """The text of functions. `used` are the variants in it; `counted` makes each variable's name its own."""
 
-    def __init__(self, names):
-        self.names, self.used, self.counted, self.has_closure, self.file = names, set(), 0, False, None
-        self.python = {id(item): f"d_{plain(item.name)}_{number}" for number, item in enumerate([*names.definitions, *names.constants])}
+    used: Set[str]
+    file: Optional[str]
 
-    def fresh(self, name):
+    def __init__(self, names: Names) -> None:
+        self.names, self.used, self.counted, self.has_closure, self.file = names, set(), 0, False, None
+        items: List[Union[tree.Definition, code.Constant]] = [*names.definitions, *names.constants]
+        self.python = {id(item): f"d_{plain(item.name)}_{number}" for number, item in enumerate(items)}
+
+    def fresh(self, name: str) -> str:
         self.counted += 1
         return f"{plain(name)}_{self.counted}"
 
     # ---- definitions
 
-    def definition(self, item):
+    def definition(self, item: tree.Definition) -> List[str]:
         """The lines of the function of a definition. One that ends by asking itself goes round a loop, unless a function in it would
         see the variables change."""
         self.file, self.has_closure = item.file, False
         lines = self.function(item, has_loop=True)
         return self.function(item, has_loop=False) if self.has_closure else lines
 
-    def function(self, item, has_loop):
+    def function(self, item: tree.Definition, has_loop: bool) -> List[str]:
         name, given = self.python[id(item)], [self.fresh("given") for _ in range(item.arity())]
         head = "@constant" if not given else "@kept" if len(given) == 1 and item.words[0] in READ and item.words[1] == "→" else None
         lines = [*([head] if head else []), f"def {name}({', '.join(given)}):"]
@@ -44,7 +59,9 @@ class Compiler:
         for equation in item.equations:
             if len(equation.patterns) != len(given):
                 raise Unknown(equation.at, f"an equation of {item.name} with another number of arguments")
-            scope, steps, wanted = {}, [], tree.free(equation.body)
+            scope: Scope = {}
+            steps: List[str] = []
+            wanted = tree.free(equation.body)
             for pattern, value in zip(equation.patterns, given):
                 self.match(pattern, value, scope, wanted, steps)
             margin = begin
@@ -56,14 +73,14 @@ class Compiler:
                 return lines
         return [*lines, f"{begin}raise Unfit({item.name!r}, {item.at})"]
 
-    def constant(self, item):
+    def constant(self, item: code.Constant) -> List[str]:
         """The lines of a constant of the code: a number, or a list of variants."""
         value = item.value if isinstance(item.value, int) else f"({' '.join(self.variant(name, 0, []) + ',' for name in item.value)})"
         return ["@constant", f"def {self.python[id(item)]}():", f"{INDENT}return {value}"]
 
     # ---- patterns
 
-    def match(self, pattern, value, scope, wanted, steps):
+    def match(self, pattern: tree.Pattern, value: str, scope: Scope, wanted: Set[str], steps: List[str]) -> None:
         """The steps that see if a value has a pattern, each an `if` or an assignment, and the variables that it binds."""
         if isinstance(pattern, tree.Binds) and not self.names.is_plain(pattern.name):
             if pattern.name in wanted:
@@ -80,7 +97,7 @@ class Compiler:
         for at, field in enumerate(fields):
             self.match(field, shape.fields[at].format(value) if shape else f"{value}[{at + 1}]", scope, wanted, steps)
 
-    def held(self, value, name, steps):
+    def held(self, value: str, name: str, steps: List[str]) -> str:
         """A variable that holds a value."""
         if not value.isidentifier():
             made = self.fresh(name)
@@ -90,29 +107,30 @@ class Compiler:
 
     # ---- expressions
 
-    def expression(self, node, scope):
-        return getattr(self, f"of_{type(node).__name__.lower()}")(node, scope)
+    def expression(self, node: tree.Expression, scope: Scope) -> str:
+        make: Callable[[tree.Expression, Scope], str] = getattr(self, f"of_{type(node).__name__.lower()}")
+        return make(node, scope)
 
-    def of_number(self, node, _scope):
+    def of_number(self, node: tree.Number, _scope: Scope) -> str:
         return str(node.value)
 
-    def of_text(self, node, _scope):
+    def of_text(self, node: tree.Text, _scope: Scope) -> str:
         return repr(node.value)
 
-    def of_name(self, node, scope):
+    def of_name(self, node: tree.Name, scope: Scope) -> str:
         return self.called(node, [], scope)
 
-    def of_variant(self, node, scope):
+    def of_variant(self, node: tree.Variant, scope: Scope) -> str:
         return self.called(node, [], scope)
 
-    def of_apply(self, node, scope):
+    def of_apply(self, node: tree.Apply, scope: Scope) -> str:
         if isinstance(node.function, tree.Name) and node.function.name == "codes" and isinstance(node.given[0], tree.Text):
             return repr(library.codes(node.given[0].value))
         if isinstance(node.function, tree.Name) and node.function.name == "◌∷◌":
             return self.list(node, scope)
         return self.called(node.function, [self.expression(it, scope) for it in node.given], scope)
 
-    def list(self, node, scope):
+    def list(self, node: tree.Apply, scope: Scope) -> str:
         """A list whose first elements are there."""
         firsts = []
         while isinstance(node, tree.Apply) and isinstance(node.function, tree.Name) and node.function.name == "◌∷◌":
@@ -121,34 +139,34 @@ class Compiler:
         others = self.expression(node, scope)
         return f"({' '.join(firsts)})" if others == "()" else f"(({' '.join(firsts)}) + {others})"
 
-    def of_lambda(self, node, scope):
+    def of_lambda(self, node: tree.Lambda, scope: Scope) -> str:
         self.has_closure = True
         names = [self.fresh(name) for name in node.names]
         body = self.expression(node.body, {**scope, **dict(zip(node.names, names))})
         return f"({''.join(f'lambda {name}: ' for name in names)}{body})"
 
-    def of_let(self, node, scope):
+    def of_let(self, node: tree.Let, scope: Scope) -> str:
         name = self.fresh(node.name)
         self.has_closure = True
         return f"(lambda {name}: {self.expression(node.body, {**scope, node.name: name})})({self.expression(node.value, scope)})"
 
-    def of_if(self, node, scope):
+    def of_if(self, node: tree.If, scope: Scope) -> str:
         test, yes, no = (self.expression(it, scope) for it in (node.test, node.yes, node.no))
         return f"({yes} if {test} else {no})"
 
-    def of_tuple(self, node, scope):
+    def of_tuple(self, node: tree.Tuple, scope: Scope) -> str:
         return f"Pair(({', '.join(self.expression(it, scope) for it in node.items)}))"
 
-    def of_record(self, node, scope):
+    def of_record(self, node: tree.Record, scope: Scope) -> str:
         base = [f"**{self.expression(node.base, scope)}"] if node.base else []
         return "{" + ", ".join(base + [f"{name!r}: {self.expression(it, scope)}" for name, it in node.fields]) + "}"
 
-    def of_field(self, node, scope):
+    def of_field(self, node: tree.Field, scope: Scope) -> str:
         return f"{self.expression(node.record, scope)}[{int(node.name) if node.name.isdecimal() else repr(node.name)}]"
 
     # ---- calls
 
-    def called(self, function, given, scope):
+    def called(self, function: tree.Expression, given: List[str], scope: Scope) -> str:
         """A function of these arguments."""
         if isinstance(function, tree.Variant):
             return self.variant(function.name, self.names.count_of(function.word, function.name, self.file, function.at), given)
@@ -175,18 +193,18 @@ class Compiler:
             return str(library.CONSTANTS[name]) + each(given)
         raise Unknown(function.at, f"nothing says what {name} is")
 
-    def variant(self, name, count, given):
+    def variant(self, name: str, count: int, given: List[str]) -> str:
         if name in SHAPES:
             made = SHAPES[name].made
             return self.applied(lambda args: made.format(*args), count, given)
         made = self.tag(name)
         return self.applied(lambda args: f"({made}, {', '.join(args)})" if args else f"V{made}", count, given)
 
-    def tag(self, name):
+    def tag(self, name: str) -> str:
         self.used.add(name)
         return f"T_{name}"
 
-    def applied(self, make, count, given):
+    def applied(self, make: Callable[[List[str]], str], count: int, given: List[str]) -> str:
         """A call with all its arguments and what is applied to its answer; or, with too few, the function of those that are missing."""
         if len(given) >= count:
             return make(given[:count]) + each(given[count:])
@@ -202,14 +220,14 @@ class Ends:
     """The lines that end a function: a `return`, or one step round its loop, whose variables are `given`. Where a function ends by a
     list whose first element is there and whose others it asks itself for, the loop keeps the first in `made`."""
 
-    def __init__(self, compiler, item, given):
+    def __init__(self, compiler: Compiler, item: tree.Definition, given: Optional[List[str]]) -> None:
         self.compiler, self.item, self.given = compiler, item, given
         self.has_made = bool(given) and any(self.rest_of(end, {}) for equation in item.equations for end in ends(equation.body))
 
-    def begin(self):
+    def begin(self) -> List[str]:
         return [f"{INDENT}made = []"] * self.has_made + [f"{INDENT}while True:"]
 
-    def lines(self, node, scope, margin):
+    def lines(self, node: tree.Expression, scope: Scope, margin: str) -> List[str]:
         make = self.compiler.expression
         if isinstance(node, tree.If):
             yes, no = self.lines(node.yes, scope, margin + INDENT), self.lines(node.no, scope, margin)
@@ -218,38 +236,42 @@ class Ends:
             name = self.compiler.fresh(node.name)
             return [f"{margin}{name} = {make(node.value, scope)}", *self.lines(node.body, {**scope, node.name: name}, margin)]
         rest = self.rest_of(node, scope)
-        if rest:
+        if rest and isinstance(node, tree.Apply):
             return [f"{margin}made.append({make(node.given[0], scope)})", *self.again(rest, scope, margin)]
-        if self.asks_itself(node, scope):
+        if isinstance(node, tree.Apply) and self.asks_itself(node, scope):
             return self.again(node, scope, margin)
         return [f"{margin}return {'tuple(made) + ' * self.has_made}{make(node, scope)}"]
 
-    def again(self, node, scope, margin):
+    def again(self, node: tree.Apply, scope: Scope, margin: str) -> List[str]:
         values = ", ".join(self.compiler.expression(it, scope) for it in node.given)
-        return [f"{margin}{', '.join(self.given)}, = {values},", f"{margin}continue"]
+        return [f"{margin}{', '.join(self.given or [])}, = {values},", f"{margin}continue"]
 
-    def rest_of(self, node, scope):
+    def rest_of(self, node: tree.Expression, scope: Scope) -> Optional[tree.Apply]:
         """What an expression asks of its own function, where it is that behind a first element."""
-        is_list = isinstance(node, tree.Apply) and isinstance(node.function, tree.Name) and node.function.name == "◌∷◌"
-        return node.given[1] if is_list and self.asks_itself(node.given[1], scope) else None
+        if not isinstance(node, tree.Apply) or not isinstance(node.function, tree.Name) or node.function.name != "◌∷◌":
+            return None
+        rest = node.given[1]
+        return rest if isinstance(rest, tree.Apply) and self.asks_itself(rest, scope) else None
 
-    def asks_itself(self, node, scope):
+    def asks_itself(self, node: tree.Expression, scope: Scope) -> bool:
         if not self.given or not isinstance(node, tree.Apply) or not isinstance(node.function, tree.Name) or len(node.given) != len(self.given):
             return False
         name = node.function.name
         return name not in scope and self.compiler.names.value(name, self.item.file, self.item.at) is self.item
 
 
-def ends(node):
+def ends(node: tree.Expression) -> List[tree.Expression]:
     """The expressions with one of which another one ends."""
     if isinstance(node, tree.If):
         return [*ends(node.yes), *ends(node.no)]
     return ends(node.body) if isinstance(node, tree.Let) else [node]
 
 
-def each(given):
+def each(given: Iterable[str]) -> str:
     return "".join(f"({it})" for it in given)
 
 
-def plain(name):
+def plain(name: str) -> str:
     return re.sub(r"\W", "_", name, flags=re.ASCII)
+
+

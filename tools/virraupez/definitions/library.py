@@ -2,10 +2,19 @@
 definitions where the toolchain is. Each function says in a sentence what it is; one that is given to it takes one argument at a time.
 
 FUNCTIONS has them by their names. Of IN_PLACE each is written where it is used, as Python text, and computes only what it needs."""
+from __future__ import annotations
+
 import re
 
-from .. import json_text
+from .. import TYPE_CHECKING, json_text
 from .values import NONE, some, tag
+
+if TYPE_CHECKING:
+    from typing import Any, Callable, Dict, Set, TypeVar
+
+    from .values import Function, Items, Numbers, Option, Test, Value
+
+    Made = TypeVar("Made", bound=Callable[..., Any])
 
 IN_PLACE = {
     "◌+◌": ("({0} + {1})", "The sum of two natural numbers."),
@@ -33,12 +42,12 @@ IN_PLACE = {
 # Numbers that have a name: how many bits a word has, and the code of the letter by which digits beyond 9 begin.
 CONSTANTS = {"w64": 64, "w128": 128, "lower": ord("a")}
 # Types, and what only clauses and types say: nothing of it is computed. And what the language of this reader has itself.
-STATED = {"Bool", "List", "Option", "Result", "ℕ", "ℤ", "Data", "Items", "IfOk", "IfErr", "◌<◌", "◌≤◌", "◌≡◌", "◌⊎◌"}
+STATED: Set[str] = {"Bool", "List", "Option", "Result", "ℕ", "ℤ", "Data", "Items", "IfOk", "IfErr", "◌<◌", "◌≤◌", "◌≡◌", "◌⊎◌"}
 LANGUAGE = {"if◌then◌else◌", "◌∷◌"}
-FUNCTIONS = {}
+FUNCTIONS: Dict[str, Callable[..., Value]] = {}
 
 
-def given(function):
+def given(function: Made) -> Made:
     """A function of the library, under its name; one that Python has itself is written with _ behind it, and an operator by its word."""
     FUNCTIONS[{"minus": "◌-◌", "divided": "◌/◌", "rest": "◌%◌"}.get(function.__name__, function.__name__.rstrip("_"))] = function
     return function
@@ -48,56 +57,56 @@ def given(function):
 
 
 @given
-def minus(a, b):
+def minus(a: int, b: int) -> int:
     """The difference of two natural numbers, and 0 where the second is the greater."""
     return a - b if a > b else 0
 
 
 @given
-def divided(a, b):
+def divided(a: int, b: int) -> int:
     """How often a natural number has another in it."""
     return a // b
 
 
 @given
-def rest(a, b):
+def rest(a: int, b: int) -> int:
     """What is left of a natural number where another is taken from it as often as it can be."""
     return a % b
 
 
 @given
-def cast_signed(bits, number):
+def cast_signed(bits: int, number: int) -> int:
     """The signed value of the lowest bits of a natural number, in two's complement."""
     number %= 1 << bits
     return number - (1 << bits) if number >> bits - 1 else number
 
 
 @given
-def int_wrapping_add(bits, a, b):
+def int_wrapping_add(bits: int, a: int, b: int) -> int:
     """The sum of two integers, wrapped to so many bits in two's complement."""
     return cast_signed(bits, a + b)
 
 
 @given
-def int_wrapping_sub(bits, a, b):
+def int_wrapping_sub(bits: int, a: int, b: int) -> int:
     """Their difference, wrapped."""
     return cast_signed(bits, a - b)
 
 
 @given
-def int_wrapping_mul(bits, a, b):
+def int_wrapping_mul(bits: int, a: int, b: int) -> int:
     """Their product, wrapped."""
     return cast_signed(bits, a * b)
 
 
 @given
-def to_be_bytes(bits, number):
+def to_be_bytes(bits: int, number: int) -> Numbers:
     """The bytes of a number of so many bits, the highest first."""
     return tuple((number % (1 << bits)).to_bytes(bits // 8, "big"))
 
 
 @given
-def from_be_bytes(bits, held):
+def from_be_bytes(bits: int, held: Numbers) -> int:
     """The number of so many bits that has these bytes, the highest first."""
     return int.from_bytes(held[: bits // 8], "big")
 
@@ -106,31 +115,31 @@ def from_be_bytes(bits, held):
 
 
 @given
-def map_(f, items):
+def map_(f: Function, items: Items) -> Items:
     """What a function gives of each element."""
     return tuple([f(it) for it in items])
 
 
 @given
-def flat_map(f, items):
+def flat_map(f: Function, items: Items) -> Items:
     """The lists that a function gives of the elements, one after another."""
     return tuple([made for it in items for made in f(it)])
 
 
 @given
-def filter_(test, items):
+def filter_(test: Test, items: Items) -> Items:
     """The elements that pass a test."""
     return tuple([it for it in items if test(it)])
 
 
 @given
-def filter_map(f, items):
+def filter_map(f: Function, items: Items) -> Items:
     """What a function gives of the elements of which it gives something."""
     return tuple([made[1] for made in [f(it) for it in items] if made is not NONE])
 
 
 @given
-def find(test, items):
+def find(test: Test, items: Items) -> Option:
     """The first element that passes a test."""
     for it in items:
         if test(it):
@@ -139,7 +148,7 @@ def find(test, items):
 
 
 @given
-def position_from(test, number, items):
+def position_from(test: Test, number: int, items: Items) -> Option:
     """The number of the first element that passes a test, if the first element of the list has this number."""
     for at, it in enumerate(items, number):
         if test(it):
@@ -148,7 +157,7 @@ def position_from(test, number, items):
 
 
 @given
-def lookup(test, pairs):
+def lookup(test: Test, pairs: Items) -> Option:
     """The second part of the first pair whose first part passes a test."""
     for key, value in pairs:
         if test(key):
@@ -157,7 +166,7 @@ def lookup(test, pairs):
 
 
 @given
-def list_all(test, items):
+def list_all(test: Test, items: Items) -> bool:
     """Whether each element passes a test."""
     for it in items:
         if not test(it):
@@ -166,7 +175,7 @@ def list_all(test, items):
 
 
 @given
-def list_any(test, items):
+def list_any(test: Test, items: Items) -> bool:
     """Whether an element passes a test."""
     for it in items:
         if test(it):
@@ -175,7 +184,7 @@ def list_any(test, items):
 
 
 @given
-def fold(f, first, items):
+def fold(f: Function, first: Value, items: Items) -> Value:
     """What a function makes of a first value and an element, then of that and the next element, and so on."""
     for it in items:
         first = f(first)(it)
@@ -183,13 +192,13 @@ def fold(f, first, items):
 
 
 @given
-def sum_by(f, items):
+def sum_by(f: Callable[[Value], int], items: Items) -> int:
     """The sum of the numbers that a function gives of the elements."""
     return sum([f(it) for it in items])
 
 
 @given
-def get_or(items, at, otherwise):
+def get_or(items: Items, at: int, otherwise: Value) -> Value:
     """The element at a place, from 0, or another value where there is none."""
     return items[at] if at < len(items) else otherwise
 
@@ -198,13 +207,13 @@ FUNCTIONS["slice_index_or"] = get_or
 
 
 @given
-def slice_get(items, at):
+def slice_get(items: Items, at: int) -> Option:
     """The element at a place, if there is one."""
     return some(items[at]) if at < len(items) else NONE
 
 
 @given
-def slice_set(items, at, value):
+def slice_set(items: Items, at: int, value: Value) -> Items:
     """The list with another element at a place; beyond its end nothing changes."""
     return items[:at] + (value,) + items[at + 1 :] if at < len(items) else items
 
@@ -213,49 +222,49 @@ def slice_set(items, at, value):
 
 
 @given
-def unwrap_or(found, otherwise):
+def unwrap_or(found: Option, otherwise: Value) -> Value:
     """What an Option has, or another value."""
     return otherwise if found is NONE else found[1]
 
 
 @given
-def option_map(f, found):
+def option_map(f: Function, found: Option) -> Option:
     """What a function gives of what an Option has."""
     return NONE if found is NONE else some(f(found[1]))
 
 
 @given
-def option_map_or(f, found, otherwise):
+def option_map_or(f: Function, found: Option, otherwise: Value) -> Value:
     """The same, or another value where it has nothing."""
     return otherwise if found is NONE else f(found[1])
 
 
 @given
-def option_and_then(f, found):
+def option_and_then(f: Function, found: Option) -> Value:
     """The Option that a function gives of what an Option has."""
     return NONE if found is NONE else f(found[1])
 
 
 @given
-def option_or(found, other):
+def option_or(found: Option, other: Option) -> Option:
     """An Option that has something, or else another one."""
     return other if found is NONE else found
 
 
 @given
-def ok_or(found, fault):
+def ok_or(found: Option, fault: Value) -> Option:
     """What an Option has as a Result, or a fault."""
     return (tag("Err"), fault) if found is NONE else (tag("Ok"), found[1])
 
 
 @given
-def result_ok(result):
+def result_ok(result: Option) -> Option:
     """What a Result has, if that is no fault."""
     return some(result[1]) if result[0] is tag("Ok") else NONE
 
 
 @given
-def result_err(result):
+def result_err(result: Option) -> Option:
     """The fault that a Result has, if it has one."""
     return some(result[1]) if result[0] is tag("Err") else NONE
 
@@ -264,25 +273,25 @@ def result_err(result):
 
 
 @given
-def codes(text):
+def codes(text: str) -> Numbers:
     """The codes of a text's characters."""
     return tuple(map(ord, text))
 
 
 @given
-def decimal(number):
+def decimal(number: int) -> Numbers:
     """A natural number in decimal digits."""
     return tuple(b"%d" % number)
 
 
 @given
-def signed_decimal(number):
+def signed_decimal(number: int) -> Numbers:
     """An integer in decimal digits, behind a minus where it is below 0."""
     return tuple(b"%d" % number)
 
 
 @given
-def is_utf8(held):
+def is_utf8(held: Numbers) -> bool:
     """Whether bytes are UTF-8."""
     try:
         return bytes(held).decode() is not None
@@ -291,7 +300,7 @@ def is_utf8(held):
 
 
 @given
-def hyphenated_text(letter, held):
+def hyphenated_text(letter: int, held: Numbers) -> Numbers:
     """The text of a UUID's sixteen bytes, RFC 9562, section 4, in lower case where the letter is `a`."""
     digits = bytes(held).hex()
     text = "-".join((digits[:8], digits[8:12], digits[12:16], digits[16:20], digits[20:]))
@@ -304,17 +313,17 @@ IDENTIFIER = re.compile(b"(%b{32})|%b|\\{%b\\}|[uU][rR][nN]:[uU][uU][iI][dD]:%b"
 
 
 @given
-def parsed(text):
+def parsed(text: Numbers) -> Option:
     """The sixteen bytes of a UUID's text: 32 digits, or hyphenated, the latter also in braces or behind `urn:uuid:`."""
     found = IDENTIFIER.fullmatch(bytes(text))
-    return some(tuple(bytes.fromhex(found[found.lastindex].replace(b"-", b"").decode()))) if found else NONE
+    return some(tuple(bytes.fromhex(found[found.lastindex or 0].replace(b"-", b"").decode()))) if found else NONE
 
 
 # ---- JSON
 
 
 @given
-def read(held):
+def read(held: Numbers) -> Option:
     """The value that a text in UTF-8 has as JSON, RFC 8259, as `serde_json` reads it: at most 127 levels, and numbers of 64 bits."""
     try:
         return some(data(json_text.read(bytes(held).decode())))
@@ -322,7 +331,7 @@ def read(held):
         return NONE
 
 
-def data(value):
+def data(value: Any) -> Option:
     """A value that JSON's reader gave. Of a name that is twice in an object the last counts."""
     if value is None:
         return tag("null").alone
@@ -338,38 +347,38 @@ def data(value):
 
 
 @given
-def get(name, value):
+def get(name: Numbers, value: Option) -> Option:
     """The value of an object's field, if there is one."""
     found = value[1].get(name) if value[0] is tag("object") else None
     return NONE if found is None else some(found)
 
 
 @given
-def as_number(value):
+def as_number(value: Option) -> Option:
     """A value of JSON as a number, if it is one."""
     return some(value[1]) if value[0] is tag("number") else NONE
 
 
 @given
-def as_str(value):
+def as_str(value: Option) -> Option:
     """A value of JSON as a text, if it is one."""
     return some(value[1]) if value[0] is tag("string") else NONE
 
 
 @given
-def as_array(value):
+def as_array(value: Option) -> Option:
     """A value of JSON as the list of its items, if it is one."""
     return some(value[1]) if value[0] is tag("array") else NONE
 
 
 @given
-def as_u64(number):
+def as_u64(number: object) -> Option:
     """A number of JSON as a natural number, if it is an integer from 0 to 2^64 - 1."""
     return some(number) if isinstance(number, int) and number >= 0 else NONE
 
 
 @given
-def as_i64(number):
+def as_i64(number: object) -> Option:
     """A number of JSON as an integer, if it is one from -2^63 to 2^63 - 1."""
     return some(number) if isinstance(number, int) and number < 2**63 else NONE
 
@@ -381,16 +390,22 @@ def as_i64(number):
 MANY = 100_000
 
 
-def first_reached(more, time, period, now):
+def first_reached(more: int, time: int, period: int, now: int) -> int:
     """The first of time, time + period, time + 2 * period, .. that is at or after now, with so many steps at most. The definition of
     this name takes them one after another, which for a timer that is late by 2^60 periods would take years."""
     late = now - time if now > time else 0
     return time + min(more, -(-late // period) if period else more) * period
 
 
-def counted(definition):
+def counted(definition: Function) -> Function:
     """The definition of that name, which for many steps is computed by a division."""
-    return lambda *given: (first_reached if given[0] > MANY else definition)(*given)
+
+    def reached(more: int, time: int, period: int, now: int) -> Value:
+        return first_reached(more, time, period, now) if more > MANY else definition(more, time, period, now)
+
+    return reached
 
 
 NAMES = {*IN_PLACE, *CONSTANTS, *STATED, *LANGUAGE, *FUNCTIONS}
+
+

@@ -1,10 +1,15 @@
 """docs/HEADLINE.md as text: its lines by the file that they come from, and its tables of names. A line is known by its number on the
 page, so that a fault names the page and the line."""
+from __future__ import annotations
+
 import os
 import re
 import typing
 
-from .. import command, installation
+from .. import TYPE_CHECKING, command, installation
+
+if TYPE_CHECKING:
+    from typing import Dict, List, Optional, Tuple
 
 PAGE = "docs/HEADLINE.md"
 FILE = re.compile(r"### \[(\S+)\]\(")
@@ -16,7 +21,7 @@ QUOTED = re.compile(r"`([^`]+)`")
 class Unknown(command.Trouble):
     """What the page says and this reader doesn't know, with its place."""
 
-    def __init__(self, line, says):
+    def __init__(self, line: int, says: str) -> None:
         super().__init__(command.place(PAGE, line) + says)
         self.says = says
 
@@ -33,9 +38,9 @@ class Part(typing.NamedTuple):
     """Lines of one file, in one block of the page."""
 
     file: str
-    lines: list
+    lines: List[Line]
 
-    def is_code(self):
+    def is_code(self) -> bool:
         return self.file.endswith(".rt")
 
 
@@ -43,7 +48,11 @@ class Page:
     """The parts of a page, the names that it takes from the toolchain's libraries with their lines, and the files that mean each of
     several definitions of a name: meant[name, file] is where that is defined."""
 
-    def __init__(self, text):
+    parts: List[Part]
+    library: Dict[str, int]
+    meant: Dict[Tuple[str, Optional[str]], str]
+
+    def __init__(self, text: str) -> None:
         self.parts, self.library, self.meant = [], {}, {}
         section, file, within = "", None, False
         for at, line in enumerate(text.split("\n"), 1):
@@ -61,7 +70,7 @@ class Page:
             elif line.startswith("| `"):
                 self.add_row(at, section, re.split(r"(?<!\\)\|", line)[1:-1])
 
-    def add(self, at, line):
+    def add(self, at: int, line: str) -> None:
         """A line of a part. Between two items there is an empty one."""
         numbered = NUMBERED.fullmatch(line)
         if numbered:
@@ -69,7 +78,7 @@ class Page:
         elif line:
             raise Unknown(at, "a line without its number")
 
-    def add_row(self, at, section, cells):
+    def add_row(self, at: int, section: str, cells: List[str]) -> None:
         if section == LIBRARY:
             self.library.update((name.replace("\\|", "|"), at) for name in QUOTED.findall(cells[1]))
         elif section == MEANT:
@@ -77,7 +86,7 @@ class Page:
             self.meant.update(((name, file.strip()), place) for file in cells[2].split(","))
 
 
-def read():
+def read() -> Page:
     """The page that is installation."""
     path = installation.place(PAGE)
     if not os.path.exists(path):

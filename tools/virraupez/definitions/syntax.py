@@ -1,10 +1,21 @@
 """The language of the definitions (.antt), as far as they use it: signatures, equations, records and `data`, and expressions."""
+from __future__ import annotations
+
 import re
 import typing
 
+from .. import TYPE_CHECKING
 from . import tree
 from .code import Enum
 from .page import Unknown
+
+if TYPE_CHECKING:
+    from typing import Callable, Dict, Iterable, Iterator, List, Optional, Sequence, Tuple, TypeVar, Union
+
+    from .page import Line, Part
+
+    Read = TypeVar("Read")
+    Operators = Dict[str, Tuple[int, str]]
 
 TOKEN = re.compile(r'"(?:[^"\\]|\\.)*"|[(){};,]|[^\s(){};,"]+')
 OPEN, CLOSE = ("(", "{"), (")", "}")
@@ -35,7 +46,7 @@ class Token(typing.NamedTuple):
     is_first: bool
 
 
-def tokens_of(lines):
+def tokens_of(lines: Iterable[Line]) -> List[Token]:
     found = []
     for line in lines:
         if not line.text.lstrip().startswith("--"):
@@ -43,9 +54,10 @@ def tokens_of(lines):
     return found
 
 
-def pieces(tokens):
+def pieces(tokens: Iterable[Token]) -> List[List[Token]]:
     """The pieces of a part: each begins at the left edge. A line in open brackets may begin there too, unless it begins a definition."""
-    found, depth = [], 0
+    found: List[List[Token]] = []
+    depth = 0
     for token in tokens:
         if token.column == 0 and (token.text in STARTS or depth == 0 and token.text not in CLOSE):
             found.append([])
@@ -55,7 +67,7 @@ def pieces(tokens):
     return found
 
 
-def operators_of(parts):
+def operators_of(parts: Sequence[Part]) -> Operators:
     """The operators of the library, and those that the lines `infix` of the page make."""
     made = dict(OPERATORS)
     for line in (line for part in parts for line in part.lines if line.text.startswith("infix")):
@@ -64,7 +76,7 @@ def operators_of(parts):
     return made
 
 
-def items(part, operators):
+def items(part: Part, operators: Operators) -> Iterator[Union[tree.Definition, Enum]]:
     """What a part of the page defines: definitions, and an Enum for each `data`. Of a record nothing is needed."""
     made = {}
     for piece in pieces(tokens_of(part.lines)):
@@ -79,7 +91,7 @@ def items(part, operators):
     yield from made.values()
 
 
-def data(file, piece):
+def data(file: str, piece: List[Token]) -> Enum:
     """A `data`: each of its lines is a variant and its type, which has an arrow behind each field."""
     made = Enum(piece[2].text, file, piece[0].at)
     begin = [token.text for token in piece].index("where") + 1
@@ -92,7 +104,7 @@ def data(file, piece):
     return made
 
 
-def add_equation(piece, operators, made):
+def add_equation(piece: List[Token], operators: Operators, made: Dict[str, tree.Definition]) -> None:
     parser = Parser(piece, operators)
     name, patterns = parser.left_side()
     if name not in made:
@@ -106,22 +118,22 @@ def add_equation(piece, operators, made):
 class Parser:
     """A walk over tokens. A line that begins no farther right than `margin` ends what is read, unless a bracket is open."""
 
-    def __init__(self, tokens, operators=OPERATORS):
+    def __init__(self, tokens: List[Token], operators: Operators = OPERATORS) -> None:
         self.tokens, self.operators, self.place, self.margin, self.begun = tokens, operators, 0, -1, -1
 
     # ---- tokens
 
-    def here(self):
+    def here(self) -> str:
         """The text of the next token, or "" where what is read ends."""
         if self.place == len(self.tokens):
             return ""
         token = self.tokens[self.place]
         return "" if token.is_first and token.column <= self.margin and self.place != self.begun else token.text
 
-    def line(self):
+    def line(self) -> int:
         return self.tokens[min(self.place, len(self.tokens) - 1)].at if self.tokens else 1
 
-    def take(self, wanted=None):
+    def take(self, wanted: Optional[str] = None) -> str:
         text = self.here()
         if not text or wanted not in (None, text):
             before = f"`{self.tokens[self.place].text}`" if self.place < len(self.tokens) else "the end"
@@ -129,11 +141,11 @@ class Parser:
         self.place += 1
         return text
 
-    def demand_end(self):
+    def demand_end(self) -> None:
         if self.here():
             raise Unknown(self.line(), f"nothing more is wanted, and there is `{self.here()}`")
 
-    def bracketed(self, close, read):
+    def bracketed(self, close: str, read: Callable[[], Read]) -> Read:
         """What `read` reads up to a bracket that closes, in which lines may begin anywhere."""
         margin, self.margin = self.margin, -1
         found = read()
@@ -143,7 +155,7 @@ class Parser:
 
     # ---- patterns
 
-    def left_side(self):
+    def left_side(self) -> Tuple[str, List[tree.Pattern]]:
         """The name that an equation defines, and its patterns; an operator stands between two of them."""
         if self.here() != "(" and self.tokens[1].text not in self.operators:
             name, patterns = self.take(), []
@@ -155,7 +167,7 @@ class Parser:
         self.take("=")
         return name, patterns
 
-    def pattern(self):
+    def pattern(self) -> tree.Pattern:
         """A word, or a pattern in brackets."""
         at = self.line()
         word = self.take()
@@ -164,7 +176,7 @@ class Parser:
         before, _, variant = word.partition(".")
         return tree.Made(before, variant, [], at) if variant else tree.Binds(word, at)
 
-    def made(self):
+    def made(self) -> tree.Pattern:
         """A variant with its fields, or the first of a list and the others."""
         at, first, fields = self.line(), self.pattern(), []
         while self.here() not in (")", "∷"):
@@ -178,7 +190,7 @@ class Parser:
 
     # ---- expressions
 
-    def expression(self, least=0):
+    def expression(self, least: int = 0) -> tree.Expression:
         left = self.operand()
         while self.here() in self.operators and self.operators[self.here()][0] >= least:
             at, operator = self.line(), self.take()
@@ -186,7 +198,7 @@ class Parser:
             left = tree.Apply(tree.Name(f"◌{operator}◌", at), [left, self.expression(level + (side != "right"))])
         return left
 
-    def operand(self):
+    def operand(self) -> tree.Expression:
         if self.here() in BEGINS:
             return {"λ": self.function, "let": self.let, "if": self.choice, "do": self.steps}[self.take()]()
         function, given = self.atom(), []
@@ -194,28 +206,28 @@ class Parser:
             given.append(self.atom())
         return tree.Apply(function, given) if given else function
 
-    def function(self):
+    def function(self) -> tree.Expression:
         """`x y. body`: the last of the names has the dot."""
         names = [self.take()]
         while not names[-1].endswith("."):
             names.append(self.take())
         return tree.Lambda([*names[:-1], names[-1][:-1]], self.expression())
 
-    def let(self):
+    def let(self) -> tree.Expression:
         name = self.take()
         self.take("=")
         value = self.expression()
         self.take("in")
         return tree.Let(name, value, self.expression())
 
-    def choice(self):
+    def choice(self) -> tree.Expression:
         test = self.expression()
         self.take("then")
         yes = self.expression()
         self.take("else")
         return tree.If(test, yes, self.expression())
 
-    def steps(self):
+    def steps(self) -> tree.Expression:
         """The lines of a `do`, which begin in one column. `x ← e` and what comes after it is `e >>= (λ x. ..)`."""
         self.begun = self.place
         column, margin = self.tokens[self.place].column, self.margin
@@ -232,7 +244,7 @@ class Parser:
             raise Unknown(at, "the last line of a `do` is no step")
         return tree.Apply(tree.Name("◌>>=◌", at), [made, tree.Lambda([name], self.steps())])
 
-    def atom(self):
+    def atom(self) -> tree.Expression:
         at, word = self.line(), self.take()
         if word == "(":
             return self.fields(self.bracketed(")", self.within))
@@ -249,12 +261,12 @@ class Parser:
         head, *names = word.split(".")
         if names and names[0][:1].isupper():
             return tree.Variant(head, names[0], at)
-        made = tree.Name(head, at)
+        made: tree.Expression = tree.Name(head, at)
         for name in names:
             made = tree.Field(made, name)
         return made
 
-    def within(self):
+    def within(self) -> tree.Expression:
         """What stands in round brackets: an expression, or several with commas."""
         items = [self.expression()]
         while self.here() == ",":
@@ -262,7 +274,7 @@ class Parser:
             items.append(self.expression())
         return items[0] if len(items) == 1 else tree.Tuple(items)
 
-    def assignments(self):
+    def assignments(self) -> List[Tuple[str, tree.Expression]]:
         fields = []
         while self.here() != "}":
             name = self.take()
@@ -272,9 +284,11 @@ class Parser:
                 self.take()
         return fields
 
-    def fields(self, made):
+    def fields(self, made: tree.Expression) -> tree.Expression:
         """An expression with the fields that are asked of it behind its bracket."""
         while self.here().startswith(".") and len(self.here()) > 1:
             for name in self.take()[1:].split("."):
                 made = tree.Field(made, name)
         return made
+
+

@@ -1,5 +1,16 @@
 """What expressions, patterns and definitions are made of. `at` is the line of the page."""
+from __future__ import annotations
+
 import typing
+
+from .. import TYPE_CHECKING
+
+if TYPE_CHECKING:
+    from typing import Any, FrozenSet, List, Optional, Set
+
+    # One of the named tuples below. A union of them, each of which has others, is what mypy 1.0 finds no end of.
+    Expression = Any
+    Pattern = Any
 
 
 # ---- expressions
@@ -29,40 +40,40 @@ class Text(typing.NamedTuple):
 
 
 class Apply(typing.NamedTuple):
-    function: typing.Any
-    given: list
+    function: Expression
+    given: List[Expression]
 
 
 class Lambda(typing.NamedTuple):
-    names: list
-    body: typing.Any
+    names: List[str]
+    body: Expression
 
 
 class Let(typing.NamedTuple):
     name: str
-    value: typing.Any
-    body: typing.Any
+    value: Expression
+    body: Expression
 
 
 class If(typing.NamedTuple):
-    test: typing.Any
-    yes: typing.Any
-    no: typing.Any
+    test: Expression
+    yes: Expression
+    no: Expression
 
 
 class Tuple(typing.NamedTuple):
-    items: list
+    items: List[Expression]
 
 
 class Record(typing.NamedTuple):
     """`record { .. }`, or with a base `record base { .. }`, which has other fields from the base."""
 
-    base: typing.Any
-    fields: list
+    base: Optional[Expression]
+    fields: List[typing.Tuple[str, Expression]]
 
 
 class Field(typing.NamedTuple):
-    record: typing.Any
+    record: Expression
     name: str
 
 
@@ -79,9 +90,9 @@ class Binds(typing.NamedTuple):
 class Made(typing.NamedTuple):
     """A variant and the patterns of its fields; the word before its dot is None where there is none."""
 
-    word: typing.Optional[str]
+    word: Optional[str]
     name: str
-    fields: list
+    fields: List[Pattern]
     at: int
 
 
@@ -89,27 +100,29 @@ class Made(typing.NamedTuple):
 
 
 class Equation(typing.NamedTuple):
-    patterns: list
-    body: typing.Any
+    patterns: List[Pattern]
+    body: Expression
     at: int
 
 
 class Definition:
     """A definition: its name, its type as words, and its equations."""
 
-    def __init__(self, name, file, at, words):
+    equations: List[Equation]
+
+    def __init__(self, name: str, file: str, at: int, words: List[str]) -> None:
         self.name, self.file, self.at, self.words, self.equations = name, file, at, words, []
 
-    def is_type(self):
+    def is_type(self) -> bool:
         """Whether it defines a type, or what a clause states. Nothing of it is computed."""
         return self.words[-2:] == ["Type", "0"]
 
-    def arity(self):
+    def arity(self) -> int:
         """How many arguments its equations name; its type may have more."""
         return len(self.equations[0].patterns)
 
 
-def free(node, bound=frozenset()):
+def free(node: object, bound: FrozenSet[str] = frozenset()) -> Set[str]:
     """The names of an expression that nothing in it binds."""
     if isinstance(node, Name):
         return set() if node.name in bound else {node.name}
@@ -120,3 +133,5 @@ def free(node, bound=frozenset()):
     if isinstance(node, (list, tuple)):
         return set().union(*(free(part, bound) for part in node))
     return set()
+
+

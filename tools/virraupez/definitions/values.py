@@ -1,27 +1,47 @@
 """What definitions compute with, as Python has it. A natural number and an integer are an int, a Bool is a bool, a list is a tuple, a
 record a dict, and a function takes one argument. A variant is a tuple that begins with its Tag. `pos`, `suc` and a few others are
 shapes: ways to see an int, a bool or a tuple."""
+from __future__ import annotations
+
 import textwrap
 import typing
+
+from .. import TYPE_CHECKING
+
+if TYPE_CHECKING:
+    from typing import Any, Callable, Dict, Tuple
+
+    # What definitions compute with. The toolchain has checked the types of all that is computed with it.
+    Value = Any
+    Items = Tuple[Value, ...]
+    Numbers = Tuple[int, ...]
+    Option = Tuple[Value, ...]
+    Function = Callable[..., Value]
+    Test = Callable[[Value], bool]
+    Base = Tuple[Any, ...]
+else:
+    Base = tuple
 
 
 class Tag:
     """The name of a variant. There is one of a name, since types keep apart the variants of two enums that have the same name. `alone`
     is the variant without fields."""
 
+    made: Dict[str, Tag]
+
     made = {}
 
-    def __init__(self, name):
+    def __init__(self, name: str) -> None:
         self.name, self.alone = name, (self,)
 
 
-def tag(name):
+def tag(name: str) -> Tag:
     if name not in Tag.made:
         Tag.made[name] = Tag(name)
     return Tag.made[name]
 
 
-class Pair(tuple):
+class Pair(Base):
     """What `(a, b)` is."""
 
 
@@ -30,7 +50,7 @@ class Shape(typing.NamedTuple):
     text with {} for the value or its fields."""
 
     test: str
-    fields: tuple
+    fields: Tuple[str, ...]
     made: str
 
 
@@ -52,7 +72,7 @@ VARIANTS = {"None": 0, "Some": 1, "Ok": 1, "Err": 1, "null": 0, "boolean": 1, "n
 NONE, SOME = tag("None").alone, tag("Some")
 
 
-def some(value):
+def some(value: Value) -> Option:
     return (SOME, value)
 
 
@@ -61,7 +81,7 @@ def some(value):
 WIDE = 120
 
 
-def shown(value, margin=0):
+def shown(value: Value, margin: int = 0) -> str:
     """A value as an expression, in lines that aren't too long."""
     line, deeper = in_line(value), "\n" + " " * (margin + 2)
     if len(line) + margin <= WIDE or not isinstance(value, (tuple, dict)):
@@ -77,7 +97,7 @@ def shown(value, margin=0):
     return deeper.join(bracketed(it, shown(it, margin + 1)) + " ∷" for it in value) + deeper + "[]"
 
 
-def in_line(value):
+def in_line(value: Value) -> str:
     if isinstance(value, bool):
         return "true" if value else "false"
     if isinstance(value, int):
@@ -95,12 +115,14 @@ def in_line(value):
     return " ∷ ".join([*(bracketed(it, in_line(it)) for it in value), "[]"])
 
 
-def bracketed(value, text):
+def bracketed(value: Value, text: str) -> str:
     """The text of a value as it is beside others."""
     is_plain = isinstance(value, (int, Pair)) or value == () or isinstance(value, tuple) and len(value) == 1 and isinstance(value[0], Tag)
     return text if is_plain or not isinstance(value, (tuple, dict)) else f"({text})"
 
 
-def is_text(value):
+def is_text(value: Items) -> bool:
     """Whether a list of numbers is shown as a text: all of it can be printed, and it has a letter, or the length of an identifier."""
     return all(type(it) is int and 32 <= it < 127 and it not in b'"\\' for it in value) and (len(value) == 36 or any(chr(it).isalpha() for it in value))
+
+

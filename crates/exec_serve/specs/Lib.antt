@@ -1,0 +1,3 @@
+pub mod LawWords
+pub mod Serving
+pub mod inner
